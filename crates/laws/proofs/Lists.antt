@@ -1,0 +1,35 @@
+-- Laws of lists and of parts of lists.
+use Prim.Native.Nat.{ℕ, zero, suc, _+_, _-_, _≤_, _<_}
+use mathlib.Core.Path.{_≡_, refl, sym, ap, _∙_}
+use mathlib.Core.List.{List, [], _∷_, _++_, append-nil}
+use native.Mathlib.Nat.{add-zero}
+use native.Mathlib.Numerals.{add-one}
+use native.Mathlib.Omega.{arith}
+use lib.ListN.{length, getD, set, take, drop, length-drop, drop-of-length-le}
+use lib.Seq.{sets, take-all, take-suc, take-suc-set}
+use borrow.Rule.Slice.PartMut.{putMid}
+
+-- a tail lent as a part is the tail
+pub tail-part : (t : List ℕ) (k : ℕ) → take (length t - k) (drop k t) ≡ drop k t
+tail-part t k = take-all (length t - k) (drop k t) (simp length-drop (omega arith))
+
+-- a lent tail that came back
+pub tail-back : (a : ℕ) (xs ys : List ℕ) → putMid a (length xs - a) xs ys ≡ take a xs ++ ys
+tail-back a xs ys =
+    let e : drop (length xs - a) (drop a xs) ≡ [] = drop-of-length-le (drop a xs) {i = length xs - a} (simp length-drop (omega arith)) in
+    rw (e, append-nil)
+
+-- a turn of a loop that writes B into a list from the front
+pub fill-turn : (out B : List ℕ) (i v : ℕ) → length out ≡ length B → i < length B → v ≡ getD B i 0 → take i out ≡ take i B → take (i + 1) (set out i v) ≡ take (i + 1) B
+fill-turn out B i v l h e p =
+    let g : i < length out = omega arith in
+    rw (add-one, take-suc-set out i v g, take-suc B i 0 h, p, e)
+
+-- writing the first i + 1 of a list is writing the first i, and one more
+pub sets-turn : (l : List ℕ) (at i : ℕ) (vs : List ℕ) → i < length vs → set (sets l at (take i vs)) (at + i) (getD vs i 0) ≡ sets l at (take (i + 1) vs)
+sets-turn l at i [] h = absurd (omega arith)
+sets-turn l at zero (v ∷ vs) h = rw add-zero
+sets-turn l at (suc i) (v ∷ vs) h =
+    let e : at + suc i ≡ suc at + i = omega arith in
+    let f : suc i + 1 ≡ suc (i + 1) = omega arith in
+    rw (e, f) (sets-turn (set l at v) (suc at) i vs (omega arith))

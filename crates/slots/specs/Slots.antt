@@ -1,0 +1,56 @@
+-- Document 01, 'Store' and 'Paths and keys': a set of slots as eight words, slot s in word s / 64 at weight 2^(s mod 64).
+use Prim.Native.Nat.{ℕ, zero, suc, _+_, _-_, _*_, _/_, _%_, _^_, _≤_, _<_}
+use mathlib.Core.Path.{_≡_, refl, sym, ap, _∙_}
+use mathlib.Core.List.{List, [], _∷_, _++_}
+use mathlib.Core.Bool.{Bool, true, false}
+use lib.ListN.{length, getD, set, take, drop}
+use lib.Dec.{ltb, leb, eqb}
+use lib.Bits.{bitAnd, bitOr, bitXor}
+use lib.Count.{ones, trailingZeros}
+use Rattle.laws.specs.Choice.{pick}
+
+-- digit i of w
+abbrev pub bit : ℕ → ℕ → ℕ
+bit w i = w / 2 ^ i % 2
+
+-- 1 where the slot s is in the set, else 0
+unfoldable pub has : List ℕ → ℕ → ℕ
+has ws s = bit (getD ws (s / 64) 0) (s % 64)
+
+unfoldable pub inserted : List ℕ → ℕ → List ℕ
+inserted ws s = set ws (s / 64) (bitOr (getD ws (s / 64) 0) (2 ^ (s % 64)))
+
+unfoldable pub removed : List ℕ → ℕ → List ℕ
+removed ws s = let w = getD ws (s / 64) 0 in set ws (s / 64) (bitXor w (bitAnd w (2 ^ (s % 64))))
+
+unfoldable pub both : List ℕ → List ℕ → List ℕ
+both [] vs = []
+both (u ∷ us) [] = []
+both (u ∷ us) (v ∷ vs) = bitAnd u v ∷ both us vs
+
+-- eight words, each by its number
+unfoldable pub words8 : (ℕ → ℕ) → List ℕ
+words8 f = f 0 ∷ f 1 ∷ f 2 ∷ f 3 ∷ f 4 ∷ f 5 ∷ f 6 ∷ f 7 ∷ []
+
+unfoldable pub either : List ℕ → List ℕ → List ℕ
+either us vs = words8 (λ i. bitOr (getD us i 0) (getD vs i 0))
+
+-- the slots that are not in the set
+unfoldable pub others : List ℕ → List ℕ
+others us = words8 (λ i. 2 ^ 64 - 1 - getD us i 0)
+
+-- has the set no slot
+unfoldable pub noneIn : List ℕ → Bool
+noneIn us =
+    eqb (bitOr (bitOr (bitOr (bitOr (bitOr (bitOr (bitOr (getD us 0 0) (getD us 1 0)) (getD us 2 0)) (getD us 3 0)) (getD us 4 0)) (getD us 5 0)) (getD us 6 0)) (getD us 7 0)) 0
+
+-- r is the least slot of the set at or after from, or 512 where there is none
+pub record Next (ws : List ℕ) (from r : ℕ) : Type 0 where
+  pub above : from ≤ r
+  pub most : r ≤ 512
+  pub member : r < 512 → has ws r ≡ 1
+  pub none : (x : ℕ) → from ≤ x → x < r → has ws x ≡ 0
+
+unfoldable pub size : List ℕ → ℕ
+size [] = 0
+size (w ∷ ws) = ones w + size ws

@@ -1,0 +1,170 @@
+// A set of the slots 0 to 511: slot s in word s / 64 at weight 2^(s mod 64) (document 01, 'Paths and keys').
+ghost use mathlib.Core.Path.{_≡_};
+ghost use mathlib.Core.List.{List};
+ghost use Prim.Native.Nat.{_+_, _-_, _*_, _/_, _%_, _^_, _≤_, _<_};
+ghost use lib.Count.{ones, trailingZeros};
+ghost use lib.Dec.{eqb};
+ghost use lib.ListN.{length, getD, set, replicate};
+ghost use Rattle.slots.specs.Slots.{has, inserted, removed, both, either, others, size, noneIn, Next};
+
+pub struct SlotSet {
+    pub words: [u64; 8],
+}
+
+fn ones_of(w: u64) -> usize
+    ensures { λ r. ⌜ (r ≡ ones w) × (r ≤ 64) ⌝ }
+{
+    u64::count_ones(w) as usize
+}
+
+fn zeros_of(w: u64) -> usize
+    ensures { λ r. ⌜ (r ≡ trailingZeros 64 w) × (r ≤ 64) ⌝ }
+{
+    u64::trailing_zeros(w) as usize
+}
+
+// The word from bit k on.
+fn from_bit(w: u64, k: usize) -> u64
+    requires { ⌜ k < 64 ⌝ }
+    ensures { λ r. ⌜ (r ≡ w / 2 ^ k) × (w < 2 ^ 64) ⌝ }
+{
+    w >> k
+}
+
+impl SlotSet {
+    pub const WORDS: usize = 8;
+
+    pub const CAPACITY: usize = 512;
+
+    pub fn empty() -> SlotSet
+        ensures { λ r. ⌜ r .words ≡ replicate 8 0 ⌝ }
+    {
+        SlotSet {
+            words: [0u64; Self::WORDS],
+        }
+    }
+
+    pub fn full() -> SlotSet
+        ensures { λ r. ⌜ r .words ≡ replicate 8 0xffff_ffff_ffff_ffff ⌝ }
+    {
+        SlotSet {
+            words: [0xffff_ffff_ffff_ffffu64; 8],
+        }
+    }
+
+    pub fn contains(self, s: usize) -> bool
+        requires { ⌜ s < 512 ⌝ }
+        ensures { λ r. ⌜ r ≡ eqb (has (self .words) s) 1 ⌝ }
+    {
+        let k = s / 64;
+        let w = self.words[k];
+        let b = w >> (s % 64);
+        b % 2 == 1
+    }
+
+    pub fn insert(mut self, s: usize) -> SlotSet
+        requires { ⌜ s < 512 ⌝ }
+        ensures { λ r. ⌜ r .words ≡ inserted (self .words) s ⌝ }
+    {
+        let k = s / 64;
+        let w = self.words[k];
+        self.words[k] = w | (1u64 << (s % 64));
+        self
+    }
+
+    pub fn remove(mut self, s: usize) -> SlotSet
+        requires { ⌜ s < 512 ⌝ }
+        ensures { λ r. ⌜ r .words ≡ removed (self .words) s ⌝ }
+    {
+        let k = s / 64;
+        let w = self.words[k];
+        self.words[k] = w ^ (w & (1u64 << (s % 64)));
+        self
+    }
+
+    pub fn and(self, other: SlotSet) -> SlotSet
+        ensures { λ r. ⌜ r .words ≡ both (self .words) (other .words) ⌝ }
+    {
+        let mut out = [0u64; 8];
+        let mut i: usize = 0;
+        while i < 8 {
+            out[i] = self.words[i] & other.words[i];
+            i += 1;
+        }
+        SlotSet { words: out }
+    }
+
+    pub fn or(self, other: SlotSet) -> SlotSet
+        ensures { λ r. ⌜ r .words ≡ either (self .words) (other .words) ⌝ }
+    {
+        let a = self.words;
+        let b = other.words;
+        SlotSet {
+            words: [
+                a[0] | b[0],
+                a[1] | b[1],
+                a[2] | b[2],
+                a[3] | b[3],
+                a[4] | b[4],
+                a[5] | b[5],
+                a[6] | b[6],
+                a[7] | b[7],
+            ],
+        }
+    }
+
+    pub fn size(self) -> usize
+        ensures { λ r. ⌜ r ≡ size (self .words) ⌝ }
+    {
+        let mut n: usize = 0;
+        let mut i: usize = 0;
+        while i < 8 {
+            n += ones_of(self.words[i]);
+            i += 1;
+        }
+        n
+    }
+
+    // The slots that are not in the set.
+    pub fn complement(self) -> SlotSet
+        ensures { λ r. ⌜ r .words ≡ others (self .words) ⌝ }
+    {
+        let a = self.words;
+        SlotSet {
+            words: [!a[0], !a[1], !a[2], !a[3], !a[4], !a[5], !a[6], !a[7]],
+        }
+    }
+
+    // Has the set no slot.
+    pub fn is_empty(self) -> bool
+        ensures { λ r. ⌜ r ≡ noneIn (self .words) ⌝ }
+    {
+        let a = self.words;
+        (a[0] | a[1] | a[2] | a[3] | a[4] | a[5] | a[6] | a[7]) == 0
+    }
+
+    // The least slot of the set at or after `from`, or 512.
+    pub fn next(self, from: usize) -> usize
+        requires { ⌜ from ≤ 512 ⌝ }
+        ensures { λ r. ⌜ Next (self .words) from r ⌝ }
+    {
+        let mut i = from / 64;
+        let mut skipped = from % 64;
+        while i < 8 {
+            let w = from_bit(self.words[i], skipped);
+            if w != 0 {
+                return i * 64 + skipped + zeros_of(w);
+            }
+            skipped = 0;
+            i += 1;
+        }
+        512
+    }
+
+    // The least slot of the set, or 512.
+    pub fn least(self) -> usize
+        ensures { λ r. ⌜ Next (self .words) 0 r ⌝ }
+    {
+        self.next(0)
+    }
+}

@@ -1,0 +1,166 @@
+use Prim.Native.Nat.{ℕ, zero, suc, _+_, _-_, _*_, _≤_, _<_, min, _%_}
+use mathlib.Core.Path.{_≡_, refl, sym, ap, _∙_}
+use mathlib.Core.List.{List, [], _∷_, _++_}
+use lib.ListN.{length, getD, take, drop, length-take, length-drop, drop-of-length-le}
+use lib.Seq.{take-all, drop-nil, drop-drop}
+use native.Mathlib.Nat.{add-assoc, zero-add, suc-add, add-suc}
+use native.Mathlib.Numerals.{one-add, add-one}
+use native.Mathlib.Omega.{arith}
+use Rattle.terms.specs.Terms.{span, declared, itemsGood, aritiesGood, refusal, head, argRefusal}
+use Rattle.laws.specs.Choice.{pick}
+use Rattle.laws.proofs.Lists.{tail-part}
+use mathlib.Core.Bool.{Bool, true, false}
+use lib.Dec.{ltb, leb, eqb}
+use borrow.Author.Tests.{le-leb, lt-leb, ltb-false, eqb-true, eqb-false, ne-eqb}
+use lib.Seq.{drop-cons, drop-length}
+
+pub span-short : (sig t : List ℕ) (k : ℕ) → length t < 2 → span sig t k ≡ 2 * k
+unfolding span
+span-short sig [] k h = refl
+span-short sig (x ∷ []) k h = refl
+span-short sig (x ∷ y ∷ r) k h = absurd (omega arith)
+
+pub span-head : (sig t : List ℕ) (k : ℕ) → 2 ≤ length t
+    → span sig t (suc k) ≡ 2 + span sig (drop 2 t) (getD sig (getD t 0 0 * 256 + getD t 1 0) 0 + k)
+unfolding span
+span-head sig [] k h = absurd (omega arith)
+span-head sig (x ∷ []) k h = absurd (omega arith)
+span-head sig (x ∷ y ∷ r) k h = refl
+
+pub span-zero : (sig t : List ℕ) → span sig t 0 ≡ 0
+unfolding span
+span-zero sig [] = refl
+span-zero sig (x ∷ []) = refl
+span-zero sig (x ∷ y ∷ r) = refl
+
+two-drop : (x y n : ℕ) (r : List ℕ) → drop (2 + n) (x ∷ y ∷ r) ≡ drop n r
+two-drop x y n r = let e : 2 + n ≡ suc (suc n) = omega arith in rw e
+
+pub span-add : (sig t : List ℕ) (a b : ℕ) → span sig t (a + b) ≡ span sig t a + span sig (drop (span sig t a) t) b
+unfolding span
+span-add sig [] a b = rw drop-nil (omega arith)
+span-add sig (x ∷ []) zero b = omega arith
+span-add sig (x ∷ []) (suc a) b =
+    let e : drop (2 * suc a) (x ∷ []) ≡ [] = drop-of-length-le (x ∷ []) {i = 2 * suc a} (omega arith) in
+    rw e (omega arith)
+span-add sig (x ∷ y ∷ r) zero b = simp zero-add
+span-add sig (x ∷ y ∷ r) (suc a) b =
+    let A = getD sig (x * 256 + y) 0 in
+    let ih : span sig r (A + a + b) ≡ span sig r (A + a) + span sig (drop (span sig r (A + a)) r) b = span-add sig r (A + a) b in
+    rw (suc-add, ← add-assoc, two-drop) (omega arith)
+
+-- one turn of the walk over the arguments
+module _ (sig t : List ℕ) (T used a i n : ℕ) (ia : i < a) (ul : used ≤ length t)
+    (ne : n ≡ min (span sig (take (length t - used) (drop used t)) 1) (length (take (length t - used) (drop used t)) + 1))
+    (inv : T ≡ used + span sig (drop used t) (a - i)) where
+  rest-length : length (take (length t - used) (drop used t)) ≡ length t - used
+  rest-length = rw tail-part (length-drop used t)
+
+  turn-split : T ≡ used + (span sig (drop used t) 1 + span sig (drop (span sig (drop used t) 1) (drop used t)) (a - (i + 1)))
+  turn-split =
+      let e : a - i ≡ 1 + (a - (i + 1)) = omega arith in
+      let f = rw e at inv in
+      rw span-add at f
+
+  pub turn-short : length (take (length t - used) (drop used t)) < n → length t < T
+  turn-short h = let m = rw tail-part at ne in omega (arith, m, turn-split, rest-length, length-drop used t)
+
+  pub turn-more : n ≤ length (take (length t - used) (drop used t))
+      → (used + n ≤ length t) × (T ≡ used + n + span sig (drop (used + n) t) (a - (i + 1)))
+  turn-more h =
+      let m = rw tail-part at ne in
+      let e : span sig (drop used t) 1 ≡ n = omega (arith, m, rest-length, length-drop used t) in
+      let f = rw (e, drop-drop) at turn-split in
+      (omega (arith, rest-length), omega (arith, f))
+
+  pub turn-in : T ≤ length t → (used + n ≤ length t) × (T ≡ used + n + span sig (drop (used + n) t) (a - (i + 1)))
+  turn-in h =
+      let m = rw tail-part at ne in
+      turn-more (omega (arith, m, turn-split, rest-length, length-drop used t))
+
+pub items-step : (n : ℕ) (t : List ℕ) → 2 ≤ length t
+    → itemsGood n t ≡ pick (declared n (getD t 0 0 * 256 + getD t 1 0)) (itemsGood n (drop 2 t)) false
+unfolding itemsGood
+items-step n [] h = absurd (omega arith)
+items-step n (x ∷ []) h = absurd (omega arith)
+items-step n (x ∷ y ∷ r) h = refl
+
+pub items-short : (n : ℕ) (t : List ℕ) → length t < 2 → itemsGood n t ≡ true
+unfolding itemsGood
+items-short n [] h = refl
+items-short n (x ∷ []) h = refl
+items-short n (x ∷ y ∷ r) h = absurd (omega arith)
+
+pub arities-step : (s : List ℕ) (i : ℕ) → i < length s → aritiesGood (drop i s) ≡ pick (leb (getD s i 0) 8) (aritiesGood (drop (i + 1) s)) false
+unfolding aritiesGood
+arities-step s i h = rw (add-one, drop-cons s i 0)
+
+pub arities-end : (s : List ℕ) (i : ℕ) → length s ≤ i → aritiesGood (drop i s) ≡ true
+unfolding aritiesGood
+arities-end s i h = rw drop-of-length-le
+
+-- a test whose refusal was not given
+past : (b : Bool) (n x : ℕ) → pick b (suc n) x ≡ 0 → (b ≡ false) × (x ≡ 0)
+past true n x h = absurd (omega arith)
+past false n x h = (refl, h)
+
+taken : (b : Bool) (n x : ℕ) → pick b x (suc n) ≡ 0 → (b ≡ true) × (x ≡ 0)
+taken true n x h = (refl, h)
+taken false n x h = absurd (omega arith)
+
+pub record Good (sig t : List ℕ) : Type 0 where
+  pub long : 2 ≤ length t
+  pub short : length t ≤ 64
+  pub symbols : itemsGood (length sig) t ≡ true
+  pub shape : span sig t 1 ≡ length t
+
+pub good : (sig t : List ℕ) → refusal sig t ≡ 0 → Good sig t
+unfolding refusal
+good sig t h =
+    let a = past (ltb 64 (length t)) 4 _ h in
+    let b = past (eqb (length t) 0) 5 _ (a .1) in
+    let c = past (eqb (length t % 2) 1) 5 _ (b .1) in
+    let d = taken (itemsGood (length sig) t) 6 _ (c .1) in
+    let e = taken (eqb (span sig t 1) (length t)) 7 _ (d .1) in
+    let x : length t ≡ 0 → ⊥ = eqb-false _ _ (b .0) in
+    let y : length t % 2 ≡ 1 → ⊥ = eqb-false _ _ (c .0) in
+    record { long = omega arith; short = ltb-false _ _ (a .0); symbols = d .0; shape = eqb-true _ _ (e .0) }
+
+-- the arguments before argument i, and argument i, lie within the term
+pub args-within : (sig t : List ℕ) (k : ℕ) → Good sig t → k ≤ getD sig (head t) 0 → 2 + span sig (drop 2 t) k ≤ length t
+args-within sig t k g h =
+    let A = getD sig (head t) 0 in
+    let s = span-head sig t 0 (g .long) in
+    let e : A + 0 ≡ k + (A - k) = omega arith in
+    let f = span-add sig (drop 2 t) k (A - k) in
+    let s2 = rw e at s in
+    omega (arith, g .shape, s2, f)
+
+pub arg-none : (sig t : List ℕ) (i : ℕ) → argRefusal sig t i ≡ 0 → Good sig t × (1 ≤ i) × (i ≤ getD sig (head t) 0)
+unfolding argRefusal
+arg-none sig t i h = go (refusal sig t) refl h
+  where
+    go : (r : ℕ) → refusal sig t ≡ r → pick (eqb r 0) (pick (eqb i 0) 10 (pick (ltb (getD sig (head t) 0) i) 10 0)) r ≡ 0 → Good sig t × (1 ≤ i) × (i ≤ getD sig (head t) 0)
+    go zero e g =
+        let a = past (eqb i 0) 9 _ g in
+        let b = past (ltb (getD sig (head t) 0) i) 9 _ (a .1) in
+        let x : i ≡ 0 → ⊥ = eqb-false _ _ (a .0) in
+        (good sig t e, omega arith, ltb-false _ _ (b .0))
+    go (suc r) e g =
+        let n : suc r ≡ 0 → ⊥ = omega arith in
+        let h = rw (ne-eqb (suc r) 0 n) at g in
+        absurd (omega (arith, h))
+
+pub arg-in : (sig t : List ℕ) (i from n : ℕ) → argRefusal sig t i ≡ 0 → from ≡ 2 + span sig (drop 2 t) (i - 1)
+    → n ≡ min (span sig (take (length t - from) (drop from t)) 1) (length (take (length t - from) (drop from t)) + 1)
+    → (from + n ≤ length t) × (n ≡ span sig (drop from t) 1)
+arg-in sig t i from n h f e =
+    let g = arg-none sig t i h in
+    let S = span sig (drop 2 t) (i - 1) in
+    let w = args-within sig t i (g .0) (g .2) in
+    let j : i ≡ (i - 1) + 1 = omega (arith, g .1) in
+    let a = span-add sig (drop 2 t) (i - 1) 1 in
+    let b = rw (drop-drop, ← f, ← j) at a in
+    let m = rw tail-part at e in
+    let l = length-drop from t in
+    (omega (arith, w, b, m, l, f), omega (arith, w, b, m, l, f))

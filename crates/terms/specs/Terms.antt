@@ -1,0 +1,65 @@
+-- Document 01, 'Term bytes' and refusals 2, 5 to 8 and 10, as functions on bytes.
+use Prim.Native.Nat.{ℕ, zero, suc, _+_, _-_, _*_, _≤_, _<_, _%_, min}
+use mathlib.Core.Path.{_≡_, refl, sym, ap, _∙_}
+use mathlib.Core.List.{List, [], _∷_, _++_}
+use lib.ListN.{length, getD, take, drop}
+use native.Mathlib.Omega.{arith}
+use lib.Dec.{ltb, leb, eqb}
+use mathlib.Core.Bool.{Bool, true, false}
+use Rattle.laws.specs.Choice.{pick}
+
+-- the bytes that the first k terms of t take up, two for each item that is missing
+unfoldable pub span : List ℕ → List ℕ → ℕ → ℕ
+span sig [] k = 2 * k
+span sig (x ∷ []) k = 2 * k
+span sig (h ∷ l ∷ r) zero = 0
+span sig (h ∷ l ∷ r) (suc k) = 2 + span sig r (getD sig (h * 256 + l) 0 + k)
+
+-- an item is a symbol below n or one of 32 variables
+unfoldable pub declared : ℕ → ℕ → Bool
+declared n x = pick (ltb x n) true (pick (leb 32768 x) (ltb x 32800) false)
+
+unfoldable pub itemsGood : ℕ → List ℕ → Bool
+itemsGood n [] = true
+itemsGood n (x ∷ []) = true
+itemsGood n (h ∷ l ∷ r) = pick (declared n (h * 256 + l)) (itemsGood n r) false
+
+unfoldable pub aritiesGood : List ℕ → Bool
+aritiesGood [] = true
+aritiesGood (a ∷ r) = pick (leb a 8) (aritiesGood r) false
+
+-- the number of the refusal of a signature, 0 where it is taken
+unfoldable pub sigRefusal : List ℕ → ℕ
+sigRefusal s = pick (eqb (length s) 0) 2 (pick (ltb 256 (length s)) 2 (pick (aritiesGood s) 0 2))
+
+-- the number of the refusal of a term, 0 where it is taken
+unfoldable pub refusal : List ℕ → List ℕ → ℕ
+refusal sig t =
+    pick (ltb 64 (length t)) 5
+    (pick (eqb (length t) 0) 6
+    (pick (eqb (length t % 2) 1) 6
+    (pick (itemsGood (length sig) t)
+    (pick (eqb (span sig t 1) (length t)) 0 8)
+    7)))
+
+abbrev pub head : List ℕ → ℕ
+head t = getD t 0 0 * 256 + getD t 1 0
+
+-- what follows the first k arguments of a term
+abbrev pub afterArgs : List ℕ → List ℕ → ℕ → List ℕ
+afterArgs sig t k = drop (2 + span sig (drop 2 t) k) t
+
+unfoldable pub argRefusal : List ℕ → List ℕ → ℕ → ℕ
+argRefusal sig t i =
+    pick (eqb (refusal sig t) 0)
+    (pick (eqb i 0) 10
+    (pick (ltb (getD sig (head t) 0) i) 10
+    0))
+    (refusal sig t)
+
+-- the bytes of argument i; none where it is refused
+unfoldable pub argBytes : List ℕ → List ℕ → ℕ → List ℕ
+argBytes sig t i =
+    pick (eqb (argRefusal sig t i) 0)
+    (take (span sig (afterArgs sig t (i - 1)) 1) (afterArgs sig t (i - 1)))
+    []

@@ -1,0 +1,242 @@
+// The signature check, the term check and the argument of a term (document 01, 'Term bytes').
+use laws::wide;
+ghost use mathlib.Core.Path.{_≡_};
+ghost use Prim.Native.Nat.{_+_, _-_, _*_, _≤_, _<_, min};
+ghost use lib.ListN.{length, take, drop, getD};
+ghost use Rattle.terms.specs.Refusals.{numberOf, checkedNumber};
+ghost use Rattle.terms.specs.Terms.{span, declared as isDeclared, itemsGood, aritiesGood, sigRefusal, refusal, head, argRefusal, argBytes};
+
+// Why a call is refused, in the order of document 01's numbers.
+pub enum Refusal {
+    Table,
+    Signature,
+    Relation,
+    Slot,
+    Size,
+    Odd,
+    Symbol,
+    Shape,
+    Key,
+    Argument,
+    Full,
+    Keys,
+    Nothing,
+    Long,
+    Room,
+    Log,
+}
+
+impl Refusal {
+    // Document 01's number.
+    pub fn number(self) -> u8
+        ensures { λ r. ⌜ r ≡ numberOf self ⌝ }
+    {
+        match self {
+            Refusal::Table => 1,
+            Refusal::Signature => 2,
+            Refusal::Relation => 3,
+            Refusal::Slot => 4,
+            Refusal::Size => 5,
+            Refusal::Odd => 6,
+            Refusal::Symbol => 7,
+            Refusal::Shape => 8,
+            Refusal::Key => 9,
+            Refusal::Argument => 10,
+            Refusal::Full => 11,
+            Refusal::Keys => 12,
+            Refusal::Nothing => 13,
+            Refusal::Long => 14,
+            Refusal::Room => 15,
+            Refusal::Log => 16,
+        }
+    }
+}
+
+// What a check answers.
+pub enum Checked {
+    Good,
+    Refused(Refusal),
+}
+
+impl Checked {
+    // 0, or the number of the refusal.
+    pub fn number(self) -> u8
+        ensures { λ r. ⌜ r ≡ checkedNumber self ⌝ }
+    {
+        match self {
+            Checked::Good => 0,
+            Checked::Refused(why) => why.number(),
+        }
+    }
+}
+
+// The number of arguments of symbol x; none for what is no symbol.
+pub fn arity(sig: &[u8], x: usize) -> usize
+    ensures { λ r. ⌜ (r ≡ getD (now (sig .entry)) x 0) × (r < 256) ⌝ }
+{
+    if x < sig.len() { wide(sig[x]) } else { 0 }
+}
+
+// The item whose bytes start at `at`.
+pub fn item(t: &[u8], at: usize) -> usize
+    requires { ⌜ at + 1 < length (now t) ⌝ }
+    ensures { λ r. ⌜ (r ≡ getD (now (t .entry)) at 0 * 256 + getD (now (t .entry)) (at + 1) 0) × (r < 65536) ⌝ }
+{
+    let h = wide(t[at]);
+    let l = wide(t[at + 1]);
+    h * 256 + l
+}
+
+// The bytes that the term at the start of `t` takes up, or one more than there are.
+pub fn walk(sig: &[u8], t: &[u8], levels: usize) -> usize
+    requires { ⌜ length (now t) ≤ 2 * levels ⌝ }
+    ensures { λ r. ⌜ r ≡ min (span (now (sig .entry)) (now (t .entry)) 1) (length (now (t .entry)) + 1) ⌝ }
+{
+    if t.len() < 2 {
+        return t.len() + 1;
+    }
+    let a = arity(sig, item(t, 0));
+    let mut used: usize = 2;
+    let mut i: usize = 0;
+    while i < a {
+        let rest = &t[used..];
+        let n = walk(sig, rest, levels - 1);
+        if rest.len() < n {
+            return t.len() + 1;
+        }
+        used += n;
+        i += 1;
+    }
+    used
+}
+
+// Is x one of n symbols or one of the 32 variables.
+pub fn declared(n: usize, x: usize) -> bool
+    ensures { λ r. ⌜ r ≡ isDeclared n x ⌝ }
+{
+    if x < n {
+        return true;
+    }
+    if 32768 <= x {
+        return x < 32800;
+    }
+    false
+}
+
+fn items_good(n: usize, t: &[u8]) -> bool
+    ensures { λ r. ⌜ r ≡ itemsGood n (now (t .entry)) ⌝ }
+{
+    let mut rest = t;
+    while 2 <= rest.len() {
+        let x = item(rest, 0);
+        if !declared(n, x) {
+            return false;
+        }
+        rest = &rest[2..];
+    }
+    true
+}
+
+fn arities_good(sig: &[u8]) -> bool
+    ensures { λ r. ⌜ r ≡ aritiesGood (now (sig .entry)) ⌝ }
+{
+    let mut i: usize = 0;
+    while i < sig.len() {
+        if 8 < sig[i] {
+            return false;
+        }
+        i += 1;
+    }
+    true
+}
+
+// Refusal 2 or none.
+pub fn check_signature(sig: &[u8]) -> Checked
+    ensures { λ r. ⌜ checkedNumber r ≡ sigRefusal (now (sig .entry)) ⌝ }
+{
+    if sig.len() == 0 {
+        return Checked::Refused(Refusal::Signature);
+    }
+    if 256 < sig.len() {
+        return Checked::Refused(Refusal::Signature);
+    }
+    if arities_good(sig) {
+        return Checked::Good;
+    }
+    Checked::Refused(Refusal::Signature)
+}
+
+// Refusals 5 to 8, the lowest that applies, or none.
+pub fn check(sig: &[u8], t: &[u8]) -> Checked
+    ensures { λ r. ⌜ checkedNumber r ≡ refusal (now (sig .entry)) (now (t .entry)) ⌝ }
+{
+    if 64 < t.len() {
+        return Checked::Refused(Refusal::Size);
+    }
+    if t.len() == 0 {
+        return Checked::Refused(Refusal::Odd);
+    }
+    if t.len() % 2 == 1 {
+        return Checked::Refused(Refusal::Odd);
+    }
+    if !items_good(sig.len(), t) {
+        return Checked::Refused(Refusal::Symbol);
+    }
+    if walk(sig, t, 32) == t.len() {
+        Checked::Good
+    } else {
+        Checked::Refused(Refusal::Shape)
+    }
+}
+
+// Refusals 5 to 8 and 10, or none, for argument i of the term.
+pub fn check_argument(sig: &[u8], t: &[u8], i: usize) -> Checked
+    ensures { λ r. ⌜ checkedNumber r ≡ argRefusal (now (sig .entry)) (now (t .entry)) i ⌝ }
+{
+    let checked = check(sig, t);
+    if checked.number() != 0 {
+        return checked;
+    }
+    if i == 0 {
+        return Checked::Refused(Refusal::Argument);
+    }
+    if arity(sig, item(t, 0)) < i {
+        return Checked::Refused(Refusal::Argument);
+    }
+    Checked::Good
+}
+
+// Where the argument after the first `k` starts.
+fn arg_at(sig: &[u8], t: &[u8], k: usize) -> usize
+    requires { ⌜ length (now t) ≤ 64 ⌝ }
+    requires { ⌜ 2 + span (now sig) (drop 2 (now t)) k ≤ length (now t) ⌝ }
+    ensures { λ r. ⌜ r ≡ 2 + span (now (sig .entry)) (drop 2 (now (t .entry))) k ⌝ }
+{
+    let mut used: usize = 2;
+    let mut i: usize = 0;
+    while i < k {
+        used += walk(sig, &t[used..], 32);
+        i += 1;
+    }
+    used
+}
+
+// The number of the refusal of argument i, or 0.
+pub fn argument_refusal(sig: &[u8], t: &[u8], i: usize) -> u8
+    ensures { λ r. ⌜ r ≡ argRefusal (now (sig .entry)) (now (t .entry)) i ⌝ }
+{
+    check_argument(sig, t, i).number()
+}
+
+// Argument i as the part of `t` where it stands; the empty part where check_argument refuses.
+pub fn argument<'a>(sig: &[u8], t: &'a [u8], i: usize) -> &'a [u8]
+    ensures { λ r. ⌜ now r ≡ argBytes (now (sig .entry)) (now (t .entry)) i ⌝ }
+{
+    if argument_refusal(sig, t, i) != 0 {
+        return &t[0..0];
+    }
+    let from = arg_at(sig, t, i - 1);
+    let n = walk(sig, &t[from..], 32);
+    let to = from + n;
+    &t[from..to]
+}
