@@ -116,7 +116,9 @@ impl Writer {
         if slots.is_empty() || self.random().chance(bad) {
             let any = self.random().below(65_536);
             let next = slots.last().map_or(0, |slot| slot + 1);
-            return *self.random().pick(&[0, next, 510, 511, 512, 513, 0xFFFF, any]);
+            return *self
+                .random()
+                .pick(&[0, next, 510, 511, 512, 513, 0xFFFF, any]);
         }
         *self.random().pick(&slots)
     }
@@ -472,7 +474,14 @@ fn bad_payload(writer: &mut Writer) {
 
 /// Inputs of exactly 65,535 bytes, one fewer, and longer ones.
 fn longest(mut random: Random) -> Vec<u8> {
-    let wanted = *random.pick(&[MOST_INPUT, MOST_INPUT, MOST_INPUT - 1, 65_536, 65_537, 66_000]);
+    let wanted = *random.pick(&[
+        MOST_INPUT,
+        MOST_INPUT,
+        MOST_INPUT - 1,
+        65_536,
+        65_537,
+        66_000,
+    ]);
     let signature = invent::small_signature(&mut random);
     let mut writer = Writer::new(random, signature);
     let steps = *writer.random().pick(&[5, 100, 10_000]);
@@ -496,9 +505,21 @@ fn longest(mut random: Random) -> Vec<u8> {
 fn paper_cases(random: Random) -> Vec<u8> {
     let mut writer = Writer::new(random, vec![0, 0, 2, 1]);
     let mut terms: Vec<&str> = vec![
-        "000280008000", "000280000003 8000", "000200008000", "8000", "00038000",
-        "000200000001", "000280000001", "0000", "0001", "00028000000280008001",
-        "0002000280008001000280018000", "00028000", "00000000", "", "0002000380008000",
+        "000280008000",
+        "000280000003 8000",
+        "000200008000",
+        "8000",
+        "00038000",
+        "000200000001",
+        "000280000001",
+        "0000",
+        "0001",
+        "00028000000280008001",
+        "0002000280008001000280018000",
+        "00028000",
+        "00000000",
+        "",
+        "0002000380008000",
     ];
     writer.random().shuffle(&mut terms);
     for term in &terms {
@@ -522,5 +543,8 @@ pub fn hexadecimal(text: &str) -> Vec<u8> {
         .filter_map(|digit| digit.to_digit(16))
         .map(|digit| digit as u8)
         .collect();
-    digits.chunks(2).map(|pair| 16 * pair[0] + pair[1]).collect()
+    digits
+        .chunks(2)
+        .map(|pair| 16 * pair[0] + pair[1])
+        .collect()
 }

@@ -372,7 +372,9 @@ impl Inventor {
                 key[step + 2] = *self.random.pick(&[0, arity + 1, 9, 255]);
             }
             4 => {
-                let end = *self.random.pick(&[declared, 0x0100, 0x8000, 0x801F, 0xFFFE]);
+                let end = *self
+                    .random
+                    .pick(&[declared, 0x0100, 0x8000, 0x801F, 0xFFFE]);
                 key.truncate(key.len() - 2);
                 push_item(&mut key, end);
             }

@@ -66,10 +66,16 @@ pub fn replay(input: &[u8]) -> String {
 fn answer(store: &mut Store, field: &Field) -> Option<String> {
     let payload = field.payload;
     match field.tag {
-        2 => Some(line("insert", store.insert(payload).map(|s| format!(" {s}")))),
+        2 => Some(line(
+            "insert",
+            store.insert(payload).map(|s| format!(" {s}")),
+        )),
         3 if payload.len() == 2 => {
             let slot = slot_of(payload);
-            Some(line("delete", store.delete(slot).map(|()| format!(" {slot}"))))
+            Some(line(
+                "delete",
+                store.delete(slot).map(|()| format!(" {slot}")),
+            ))
         }
         4 if !payload.is_empty() => {
             let relation = usize::from(payload[0]);

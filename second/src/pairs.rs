@@ -11,7 +11,7 @@ pub type Pair = (Term, Term);
 
 /// One of the kinds below; the signature has every arity.
 pub fn hard_pair(inventor: &mut Inventor) -> Pair {
-    match inventor.random.weighted(&[25, 20, 15, 15, 15, 10]) {
+    match inventor.random.weighted(&[22, 18, 22, 15, 15, 8]) {
         0 => loose_pairs(inventor),
         1 => binding_chain(inventor),
         2 => exponential(inventor),
@@ -36,10 +36,7 @@ fn wrap(inventor: &mut Inventor, mut pairs: Vec<Pair>) -> Pair {
     }
     let symbol = *inventor.random.pick(&inventor.by_arity[pairs.len()]);
     let (stored, question) = pairs.into_iter().unzip();
-    (
-        Term::Symbol(symbol, stored),
-        Term::Symbol(symbol, question),
-    )
+    (Term::Symbol(symbol, stored), Term::Symbol(symbol, question))
 }
 
 /// How many items each side of the wrapped pairs has.
@@ -123,7 +120,7 @@ fn binding_chain(inventor: &mut Inventor) -> Pair {
 
 /// The family of document 002, section 6, for terms of at most 32 items.
 fn exponential(inventor: &mut Inventor) -> Pair {
-    let arity = *inventor.random.pick(&[2, 2, 2, 3, 4, 8]);
+    let arity = *inventor.random.pick(&[2, 2, 3, 4, 4, 5, 6, 8]);
     let symbol = *inventor.random.pick(&inventor.by_arity[arity]);
     let mut pairs = Vec::new();
     for number in 0.. {
@@ -228,37 +225,61 @@ fn ladder(inventor: &mut Inventor, arities: &[usize], shared: bool) -> Ladder {
     ladder
 }
 
-/// The shortest term over the ladder's variables whose value has `size` items.
-fn build(inventor: &mut Inventor, size: usize, values: &[(usize, usize)], depth: usize) -> Term {
+/// The shortest term over the ladder's variables whose value has `size` items; none where
+/// more than `depth` symbols would stand above each other.
+fn build(
+    inventor: &mut Inventor,
+    size: usize,
+    values: &[(usize, usize)],
+    depth: usize,
+) -> Option<Term> {
     if let Some(&(_, number)) = values.iter().find(|value| value.0 == size) {
-        return variable(number);
+        return Some(variable(number));
     }
     if size == 1 {
-        return inventor.constant();
+        return Some(inventor.constant());
+    }
+    if depth == 0 {
+        return None;
     }
     let mut best: Option<Term> = None;
     for arity in (1..=8).filter(|&arity| arity < size) {
-        let mut arguments = Vec::new();
-        let mut left = size - 1;
-        for after in (1..arity).rev() {
-            let usable = values.iter().filter(|value| value.0 + after <= left);
-            let part = usable.max().copied();
-            left -= part.map_or(1, |value| value.0);
-            arguments.push(match part {
-                Some((_, number)) => variable(number),
-                None => inventor.constant(),
-            });
-        }
-        if depth == 0 && left > 1 && !values.iter().any(|value| value.0 == left) {
-            continue;
-        }
-        arguments.push(build(inventor, left, values, depth.saturating_sub(1)));
-        let made = inventor.apply(arguments).expect("a signature of every arity");
-        if best.as_ref().map_or(true, |best| made.items() < best.items()) {
-            best = Some(made);
+        let (mut arguments, left) = largest_parts(inventor, size - 1, arity, values);
+        if let Some(last) = build(inventor, left, values, depth - 1) {
+            arguments.push(last);
+            let made = inventor.apply(arguments)?;
+            if best.as_ref().map_or(true, |b| made.items() < b.items()) {
+                best = Some(made);
+            }
         }
     }
-    best.unwrap_or_else(|| inventor.constant())
+    best
+}
+
+/// All arguments but the last, each the largest that leaves room for those after it, and
+/// how many items are left for the last.
+fn largest_parts(
+    inventor: &mut Inventor,
+    size: usize,
+    arity: usize,
+    values: &[(usize, usize)],
+) -> (Vec<Term>, usize) {
+    let mut arguments = Vec::new();
+    let mut left = size;
+    for after in (1..arity).rev() {
+        let usable = values.iter().filter(|value| value.0 + after <= left);
+        match usable.max() {
+            Some(&(items, number)) => {
+                left -= items;
+                arguments.push(variable(number));
+            }
+            None => {
+                left -= 1;
+                arguments.push(inventor.constant());
+            }
+        }
+    }
+    (arguments, left)
 }
 
 /// A pair that gives one variable a value of exactly `size` items, others fewer.
@@ -270,8 +291,13 @@ pub fn sized_value(inventor: &mut Inventor, size: usize) -> Pair {
             .map(|_| inventor.random.between(low, 11 - count))
             .collect();
         let shared = inventor.random.chance(70);
-        let Ladder { mut pairs, values, .. } = ladder(inventor, &arities, shared);
-        pairs.push((build(inventor, size, &values, 3), variable(9)));
+        let Ladder {
+            mut pairs, values, ..
+        } = ladder(inventor, &arities, shared);
+        let Some(large) = build(inventor, size, &values, 4) else {
+            continue;
+        };
+        pairs.push((large, variable(9)));
         if fits(&pairs) {
             return finish_sized(inventor, pairs);
         }
@@ -288,29 +314,49 @@ fn finish_sized(inventor: &mut Inventor, mut pairs: Vec<Pair>) -> Pair {
     wrap(inventor, pairs)
 }
 
-/// A pair whose record is near 32,768 bytes, the log program's answer buffer: nine variables
-/// share one large value. A field has 5 bytes and two bytes an item of its value.
+/// A pair whose record is near 32,768 bytes, the log program's answer buffer: up to nine
+/// variables share one large value. A field has 5 bytes and two bytes an item of its value.
 pub fn long_record(inventor: &mut Inventor) -> Pair {
-    let wanted = *inventor
+    let mut wanted = *inventor
         .random
-        .pick(&[32_764, 32_766, 32_768, 32_768, 32_770, 32_770, 36_000]);
-    loop {
-        let arities: Vec<usize> = (0..3).map(|_| inventor.random.between(5, 8)).collect();
-        let Ladder { mut pairs, values, items, bound } = ladder(inventor, &arities, false);
-        let sharers = 9;
-        let wanted_items = (wanted - 5 * (bound + sharers)) / 2 - items;
-        let near = wanted_items / sharers;
-        let exact = wanted_items % sharers == 0;
-        if (!exact && wanted != 36_000) || near > 2048 {
-            continue;
+        .pick(&[32_766, 32_767, 32_768, 32_768, 32_768, 32_769, 32_770]);
+    for turn in 0.. {
+        if turn % 500 == 499 {
+            // No ladder has been found for this length; another one is.
+            wanted = inventor.random.between(32_700, 34_000);
         }
-        pairs.push((build(inventor, near, &values, 3), variable(9)));
-        let stored = vec![variable(20); 8];
-        let question = (9..17).map(variable).collect();
-        let symbol = *inventor.random.pick(&inventor.by_arity[8]);
-        pairs.push((Term::Symbol(symbol, stored), Term::Symbol(symbol, question)));
-        if fits(&pairs) {
-            return finish_sized(inventor, pairs);
+        let arities: Vec<usize> = (0..3).map(|_| inventor.random.between(4, 8)).collect();
+        let shared = inventor.random.chance(70);
+        let mut ladder = ladder(inventor, &arities, shared);
+        let sharers = inventor.random.between(8, 9);
+        let Some(items) = shared_items(&ladder, wanted, sharers) else {
+            continue;
+        };
+        let Some(large) = build(inventor, items, &ladder.values, 4) else {
+            continue;
+        };
+        ladder.pairs.push((large, variable(16)));
+        ladder.pairs.push(equal_variables(inventor, sharers));
+        if fits(&ladder.pairs) {
+            return finish_sized(inventor, ladder.pairs);
         }
     }
+    unreachable!("the search ends only with a pair")
+}
+
+/// How many items the shared value must have for a record of `wanted` bytes, if any number
+/// from 1 to 2,048 does it.
+fn shared_items(ladder: &Ladder, wanted: usize, sharers: usize) -> Option<usize> {
+    let values_bytes = wanted - 5 * (ladder.bound + sharers);
+    let left = (values_bytes / 2).checked_sub(ladder.items)?;
+    let exact = values_bytes % 2 == 0 && left % sharers == 0;
+    (exact && (1..=2048).contains(&(left / sharers))).then_some(left / sharers)
+}
+
+/// Makes one stored variable and several of the question's equal, question variable 16 too.
+fn equal_variables(inventor: &mut Inventor, sharers: usize) -> Pair {
+    let arity = sharers - 1;
+    let symbol = *inventor.random.pick(&inventor.by_arity[arity]);
+    let question = (17 - arity..17).map(variable).collect();
+    (copies(symbol, arity, 20), Term::Symbol(symbol, question))
 }

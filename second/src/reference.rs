@@ -430,7 +430,10 @@ impl Unifier {
     /// The number of fields and the record's bytes, or refusal 14.
     pub fn record(&self) -> Result<(usize, Vec<u8>), Refusal> {
         let listed = self.listed();
-        if listed.iter().any(|&(_, root)| self.items(root) > MOST_VALUE_ITEMS) {
+        if listed
+            .iter()
+            .any(|&(_, root)| self.items(root) > MOST_VALUE_ITEMS)
+        {
             return Err(LONG);
         }
         let mut record = Vec::new();

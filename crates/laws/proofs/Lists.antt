@@ -33,3 +33,16 @@ sets-turn l at (suc i) (v ∷ vs) h =
     let e : at + suc i ≡ suc at + i = omega arith in
     let f : suc i + 1 ≡ suc (i + 1) = omega arith in
     rw (e, f) (sets-turn (set l at v) (suc at) i vs (omega arith))
+
+-- the same from the front of the list, as a loop meets it
+pub front-turn : (out out₀ vs : List ℕ) (i v : ℕ) → out ≡ sets out₀ 0 (take i vs) → i < length vs → v ≡ getD vs i 0 → set out i v ≡ sets out₀ 0 (take (i + 1) vs)
+front-turn out out₀ vs i v e h f =
+    let z : 0 + i ≡ i = omega arith in
+    rw (e, f) (rw z at (sets-turn out₀ 0 i vs h))
+
+pub front-end : (out out₀ vs : List ℕ) (i : ℕ) → out ≡ sets out₀ 0 (take i vs) → length vs ≤ i → out ≡ sets out₀ 0 vs
+front-end out out₀ vs i e h = e ∙ ap (sets out₀ 0) (take-all i vs h)
+
+pub front-start : (out vs : List ℕ) → out ≡ sets out 0 (take 0 vs)
+front-start out [] = refl
+front-start out (v ∷ vs) = refl

@@ -1,1 +1,3 @@
 pub mod Choice
+pub mod Digits
+pub mod Members

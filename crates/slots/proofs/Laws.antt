@@ -23,30 +23,8 @@ use lib.ListN.{length-map, drop-of-length-le}
 use lib.Seq.{drop-cons}
 use native.Mathlib.Omega.{arith}
 use borrow.Author.Tests.{eq-eqb, ne-eqb}
-use Rattle.laws.specs.Choice.{pick}
-use Rattle.slots.specs.Slots.{bit, has, inserted, removed, both, either, size, words8, Next}
-
-pub one-shl : (k : ℕ) → k < 64 → (1 * 2 ^ k) % 2 ^ 64 ≡ 2 ^ k
-one-shl k h = rw one-mul (mod-eq-of-lt (pow-lt h))
-
-pub bit-and : (a b i : ℕ) → bit (bitAnd a b) i ≡ min (bit a i) (bit b i)
-bit-and a b i = rw (and-shr, and-step) (digits-mod _ (omega arith))
-
-pub bit-or : (a b i : ℕ) → bit (bitOr a b) i ≡ max (bit a i) (bit b i)
-bit-or a b i = rw (or-shr, or-step) (digits-mod _ (omega arith))
-
-pub bit-pow-same : (s : ℕ) → bit (2 ^ s) s ≡ 1
-bit-pow-same s = let e = rw one-mul at (shl-shr 1 s) in rw e
-
-pub bit-pow-other : (s i : ℕ) → (i ≡ s → ⊥) → bit (2 ^ s) i ≡ 0
-bit-pow-other s i h = go (decLt s i)
-  where
-    go : Dec (s < i) → bit (2 ^ s) i ≡ 0
-    go (yes l) = rw (div-eq-of-lt (pow-lt l))
-    go (no n) =
-        let e : s ≡ suc (s - i - 1) + i = omega arith in
-        let f : 2 ^ s ≡ 2 ^ suc (s - i - 1) * 2 ^ i = ap (λ (x : ℕ). 2 ^ x) e ∙ pow-add 2 (suc (s - i - 1)) i in
-        rw (f, shl-shr, pow-suc) (mul-mod-left _ 2)
+use Rattle.laws.specs.Digits.{bit, bit-and, bit-or, bit-pow-same, bit-pow-other, bit-suc, bit-zero}
+use Rattle.slots.specs.Slots.{has, inserted, removed, both, either, size, words8, Next}
 
 -- what an insert does to each slot
 pub has-insert-same : (ws : List ℕ) (s : ℕ) → s < 64 * length ws → has (inserted ws s) s ≡ 1
@@ -88,12 +66,6 @@ pub ones-members : (k w : ℕ) → w < 2 ^ k → ones w ≡ members k w
 unfolding members
 ones-members zero w h = let e : w ≡ 0 = omega arith in rw e (unfold ones in refl)
 ones-members (suc k) w h = let g = rw pow-suc at h in rw ones-step (ap (λ (x : ℕ). w % 2 + x) (ones-members k (w / 2) (omega arith)))
-
-bit-suc : (w t : ℕ) → bit w (suc t) ≡ bit (w / 2) t
-bit-suc w t = rw (← one-add t, ← shr-shr w 1 t)
-
-bit-zero : (w : ℕ) → bit w 0 ≡ w % 2
-bit-zero w = rw div-one
 
 here-under : (k w d : ℕ) → (trailingZeros k (w / 2) < k → bit (w / 2) (trailingZeros k (w / 2)) ≡ 1) → w % 2 ≡ d
     → under d (trailingZeros k (w / 2)) < suc k → bit w (under d (trailingZeros k (w / 2))) ≡ 1

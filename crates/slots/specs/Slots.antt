@@ -7,11 +7,7 @@ use lib.ListN.{length, getD, set, take, drop}
 use lib.Dec.{ltb, leb, eqb}
 use lib.Bits.{bitAnd, bitOr, bitXor}
 use lib.Count.{ones, trailingZeros}
-use Rattle.laws.specs.Choice.{pick}
-
--- digit i of w
-abbrev pub bit : ℕ → ℕ → ℕ
-bit w i = w / 2 ^ i % 2
+use Rattle.laws.specs.Digits.{bit}
 
 -- 1 where the slot s is in the set, else 0
 unfoldable pub has : List ℕ → ℕ → ℕ

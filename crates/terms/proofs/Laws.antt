@@ -1,4 +1,4 @@
-use Prim.Native.Nat.{ℕ, zero, suc, _+_, _-_, _*_, _≤_, _<_, min, _%_}
+use Prim.Native.Nat.{ℕ, zero, suc, _+_, _-_, _*_, _≤_, _<_, min, _/_, _%_}
 use mathlib.Core.Path.{_≡_, refl, sym, ap, _∙_}
 use mathlib.Core.List.{List, [], _∷_, _++_}
 use lib.ListN.{length, getD, take, drop, length-take, length-drop, drop-of-length-le}
@@ -6,7 +6,7 @@ use lib.Seq.{take-all, drop-nil, drop-drop}
 use native.Mathlib.Nat.{add-assoc, zero-add, suc-add, add-suc}
 use native.Mathlib.Numerals.{one-add, add-one}
 use native.Mathlib.Omega.{arith}
-use Rattle.terms.specs.Terms.{span, declared, itemsGood, aritiesGood, refusal, head, argRefusal}
+use Rattle.terms.specs.Terms.{numbers, span, declared, itemsGood, aritiesGood, refusal, head, argRefusal}
 use Rattle.laws.specs.Choice.{pick}
 use Rattle.laws.proofs.Lists.{tail-part}
 use mathlib.Core.Bool.{Bool, true, false}
@@ -164,3 +164,19 @@ arg-in sig t i from n h f e =
     let m = rw tail-part at e in
     let l = length-drop from t in
     (omega (arith, w, b, m, l, f), omega (arith, w, b, m, l, f))
+
+pub length-numbers : (t : List ℕ) → length (numbers t) ≡ length t / 2
+unfolding numbers
+length-numbers [] = refl
+length-numbers (h ∷ []) = refl
+length-numbers (h ∷ l ∷ r) = omega (arith, length-numbers r)
+
+pub getD-numbers : (t : List ℕ) (i : ℕ) → i < length t / 2 → getD (numbers t) i 0 ≡ getD t (2 * i) 0 * 256 + getD t (2 * i + 1) 0
+unfolding numbers
+getD-numbers [] i b = absurd (omega arith)
+getD-numbers (h ∷ []) i b = absurd (omega arith)
+getD-numbers (h ∷ l ∷ r) zero b = refl
+getD-numbers (h ∷ l ∷ r) (suc i) b =
+    let e : 2 * suc i ≡ suc (suc (2 * i)) = omega arith in
+    let f : suc (suc (2 * i)) + 1 ≡ suc (suc (2 * i + 1)) = omega arith in
+    rw (e, f) (getD-numbers r i (omega arith))

@@ -8,6 +8,12 @@ use lib.Dec.{ltb, leb, eqb}
 use mathlib.Core.Bool.{Bool, true, false}
 use Rattle.laws.specs.Choice.{pick}
 
+-- the items of the bytes, two bytes an item, high byte first
+unfoldable pub numbers : List ℕ → List ℕ
+numbers [] = []
+numbers (h ∷ []) = []
+numbers (h ∷ l ∷ r) = (h * 256 + l) ∷ numbers r
+
 -- the bytes that the first k terms of t take up, two for each item that is missing
 unfoldable pub span : List ℕ → List ℕ → ℕ → ℕ
 span sig [] k = 2 * k

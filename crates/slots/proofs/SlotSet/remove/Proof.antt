@@ -1,6 +1,6 @@
 use native.Mathlib.Omega.{arith}
 use Prim.Native.Nat.{_%_}
-use Rattle.slots.proofs.Laws.{one-shl}
+use Rattle.laws.specs.Digits.{one-shl}
 use Rattle.slots.specs.Slots.{removed}
 use borrow.Author.Needs.{needs}
 use Rattle.slots.proofs.SlotSet.remove.Statement.{statement}

@@ -1,0 +1,175 @@
+// The candidate walk: the slots whose term agrees with the question at each place met (document 01, 'Paths and keys').
+use bank::meet;
+use chains::find;
+use laws::low;
+use laws::wide;
+use laws::wide16;
+use outline::decode;
+use slots::SlotSet;
+use terms::arity;
+use walks::label_of;
+use walks::place_below;
+ghost use mathlib.Core.Path.{_≡_};
+ghost use Prim.Native.Nat.{ℕ, _+_, _-_, _*_, _/_, _≤_, _<_};
+ghost use lib.ListN.{length, getD};
+ghost use Rattle.bank.specs.Bank.{Long};
+
+// Which variables agree with anything at their place: the question's, the stored term's.
+pub struct Rule {
+    pub open: bool,
+    pub stars: bool,
+}
+
+// The rule of a relation, by its number.
+pub fn rule_of(relation: usize) -> Rule {
+    if relation == 2 {
+        return Rule {
+            open: true,
+            stars: false,
+        };
+    }
+    if relation == 3 {
+        return Rule {
+            open: false,
+            stars: true,
+        };
+    }
+    if relation == 4 {
+        return Rule {
+            open: true,
+            stars: true,
+        };
+    }
+    Rule {
+        open: false,
+        stars: false,
+    }
+}
+
+// The slots of `within` whose term agrees with the question's term at item `at`, at the place with this number.
+fn narrow(
+    link: &[u16],
+    label: &[u32],
+    s0: &[u64],
+    s1: &[u64],
+    s2: &[u64],
+    s3: &[u64],
+    items: &[u16],
+    ends: &[u8],
+    rule: Rule,
+    at: usize,
+    place: u32,
+    levels: usize,
+    within: SlotSet,
+) -> SlotSet {
+    if within.is_empty() {
+        return within;
+    }
+    let x = items[at];
+    if 32768 <= x {
+        if rule.open {
+            return within;
+        }
+        return meet(
+            s0,
+            s1,
+            s2,
+            s3,
+            find(link, label, label_of(place, 256)),
+            within,
+        );
+    }
+    let k = find(link, label, label_of(place, x));
+    let mut deep = meet(s0, s1, s2, s3, k, within);
+    let end = wide(ends[at]);
+    let mut child = at + 1;
+    let mut next = place_below(k);
+    while child < end {
+        deep = narrow(
+            link,
+            label,
+            s0,
+            s1,
+            s2,
+            s3,
+            items,
+            ends,
+            rule,
+            child,
+            next,
+            levels - 1,
+            deep,
+        );
+        next += 1;
+        child = wide(ends[child]);
+    }
+    if rule.stars {
+        let star = meet(
+            s0,
+            s1,
+            s2,
+            s3,
+            find(link, label, label_of(place, 256)),
+            within,
+        );
+        return deep.or(star);
+    }
+    deep
+}
+
+// Where the term at item i ends, from the ends of later items.
+fn end_after(sig: &[u8], items: &[u16], ends: &[u8], i: usize) -> usize {
+    let mut e = i + 1;
+    let mut a = arity(sig, wide16(items[i]));
+    while 0 < a {
+        if items.len() <= e {
+            return e;
+        }
+        e = wide(ends[e]);
+        a -= 1;
+    }
+    e
+}
+
+// Where the term at each item ends, from the last item to the first.
+fn find_ends(sig: &[u8], items: &[u16], ends: &mut [u8; 32]) {
+    let mut i = items.len();
+    while 0 < i {
+        i -= 1;
+        ends[i] = low(end_after(sig, items, ends, i));
+    }
+}
+
+// The candidates of a question among the slots in use.
+pub fn candidates(
+    link: &[u16],
+    label: &[u32],
+    s0: &[u64],
+    s1: &[u64],
+    s2: &[u64],
+    s3: &[u64],
+    sig: &[u8],
+    relation: usize,
+    question: &[u8],
+    used: SlotSet,
+) -> SlotSet {
+    let mut items = [0u16; 32];
+    let mut ends = [0u8; 32];
+    let n = decode(question, &mut items);
+    find_ends(sig, &items[..n], &mut ends);
+    narrow(
+        link,
+        label,
+        s0,
+        s1,
+        s2,
+        s3,
+        &items[..n],
+        &ends,
+        rule_of(relation),
+        0,
+        32776,
+        32,
+        used,
+    )
+}

@@ -1,0 +1,91 @@
+// Keys by their labels: chains through a table of links.
+use laws::wide16;
+use laws::wide32;
+ghost use mathlib.Core.Path.{_≡_};
+ghost use Prim.Native.Nat.{_+_, _-_, _*_, _%_, _≤_, _<_, suc};
+ghost use lib.ListN.{length, getD, set};
+ghost use Rattle.chains.specs.Chains.{home as homeOf, find as findOf, unlink as unlinkOf, taken, pushed, relinked, longer};
+
+fn home(w: u32) -> usize
+    ensures { λ r. ⌜ (r ≡ homeOf w) × (4096 ≤ r) × (r < 8190) ⌝ }
+{
+    if w == 0 {
+        return 8189;
+    }
+    4096 + (wide32(w) - 1) % 4093
+}
+
+// The key with label `w`, or 4096.
+pub fn find(link: &[u16], label: &[u32], w: u32) -> usize
+    requires { ⌜ (8190 ≤ length (now link)) × (4096 ≤ length (now label)) ⌝ }
+    ensures { λ r. ⌜ r ≡ findOf (now (link .entry)) (now (label .entry)) w ⌝ }
+{
+    let at = home(w);
+    let mut k = wide16(link[at]);
+    let mut fuel: usize = 4096;
+    while 0 < fuel {
+        if k == 0 {
+            return 4096;
+        }
+        let j = (k - 1) % 4096;
+        if label[j] == w {
+            return j;
+        }
+        k = wide16(link[j]);
+        fuel -= 1;
+    }
+    4096
+}
+
+// Takes the key `k` off the chain that goes on at `from`.
+fn unlink(link: &mut [u16], k: usize, from: usize)
+    requires { ⌜ (8190 ≤ length (now link)) × (from < 8190) × (k < 4096) ⌝ }
+    ensures { λ _. ⌜ now (link .exit) ≡ unlinkOf (now (link .entry)) k 4096 from (getD (now (link .entry)) from 0) ⌝ }
+{
+    let mut at = from;
+    let mut fuel: usize = 4096;
+    while 0 < fuel {
+        let x = wide16(link[at]);
+        if x == 0 {
+            return;
+        }
+        if x - 1 == k {
+            link[at] = link[k];
+            return;
+        }
+        at = (x - 1) % 4096;
+        fuel -= 1;
+    }
+}
+
+// Gives the key `k` the label `w`; 0 makes it free.
+pub fn relabel(link: &mut [u16], label: &mut [u32], k: u16, w: u32)
+    requires { ⌜ (8190 ≤ length (now link)) × (4096 ≤ length (now label)) × (k < 4096) ⌝ }
+    ensures { λ _. ⌜ (now (link .exit) ≡ relinked (now (link .entry)) (now (label .entry)) k w) × (now (label .exit) ≡ set (now (label .entry)) k w) ⌝ }
+{
+    let j = wide16(k);
+    let old = home(label[j]);
+    unlink(link, j, old);
+    let at = home(w);
+    link[j] = link[at];
+    link[at] = k + 1;
+    label[j] = w;
+}
+
+// Are there at least `m` free keys.
+pub fn roomy(link: &[u16], m: usize) -> bool
+    requires { ⌜ 8190 ≤ length (now link) ⌝ }
+    ensures { λ r. ⌜ r ≡ longer (now (link .entry)) m (getD (now (link .entry)) 8189 0) ⌝ }
+{
+    let mut k = wide16(link[8189]);
+    let mut i = m;
+    while 0 < i {
+        if k == 0 {
+            return false;
+        }
+        let j = (k - 1) % 4096;
+        k = wide16(link[j]);
+        i -= 1;
+    }
+    true
+}

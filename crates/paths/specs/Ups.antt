@@ -1,0 +1,57 @@
+-- The ups of a term, read off its flat list of items with the ups that are still to come.
+use Prim.Native.Nat.{ℕ, zero, suc, _+_, _*_, _≤_, _<_}
+use mathlib.Core.Path.{_≡_, refl, sym, ap, _∙_}
+use mathlib.Core.List.{List, [], _∷_, _++_, append-assoc, append-nil}
+use native.Mathlib.Omega.{arith}
+use lib.ListN.{length, length-append}
+use Rattle.keys.specs.Keys.{Tm, Args, node, nil, cons, size, sizes}
+use Rattle.paths.specs.Walk.{upsT, upsA}
+use Rattle.paths.specs.Cand.{count}
+
+unfoldable mutual
+  pub itemsT : Tm → List ℕ
+  itemsT (node x us) = x ∷ itemsA us
+
+  pub itemsA : Args → List ℕ
+  itemsA nil = []
+  itemsA (cons t us) = itemsT t ++ itemsA us
+
+-- the ups of arguments i to i + a - 1 of item n
+unfoldable pub kids : ℕ → ℕ → ℕ → List ℕ
+kids n i zero = []
+kids n i (suc a) = suc (n * 8 + i) ∷ kids n (suc i) a
+
+unfoldable pub upsF : (ℕ → ℕ) → ℕ → List ℕ → List ℕ → List ℕ
+upsF ar n ps [] = []
+upsF ar n [] (x ∷ xs) = []
+upsF ar n (u ∷ ps) (x ∷ xs) = u ∷ upsF ar (suc n) (kids n 0 (ar x) ++ ps) xs
+
+unfoldable mutual
+  pub Shaped : (ℕ → ℕ) → Tm → Type 0
+  Shaped ar (node x us) = (count us ≡ ar x) × Shapes ar us
+
+  pub Shapes : (ℕ → ℕ) → Args → Type 0
+  Shapes ar nil = Unit {0}
+  Shapes ar (cons t us) = Shaped ar t × Shapes ar us
+
+mutual
+  unfolding upsF itemsT upsT size Shaped kids
+
+  pub ups-flat : (t : Tm) (ar : ℕ → ℕ) (n u : ℕ) (ps xs : List ℕ) → Shaped ar t → upsF ar n (u ∷ ps) (itemsT t ++ xs) ≡ upsT n u t ++ upsF ar (n + size t) ps xs
+  ups-flat (node x us) ar n u ps xs w =
+      let h = ups-args us ar (suc n) n 0 ps xs (w .1) in
+      let z : suc n + sizes us ≡ n + suc (sizes us) = omega arith in
+      ap {B = List ℕ} (λ l. u ∷ l) (rw (w .0, z) at h)
+
+  pub ups-args : (us : Args) (ar : ℕ → ℕ) (m n i : ℕ) (ps xs : List ℕ) → Shapes ar us → upsF ar m (kids n i (count us) ++ ps) (itemsA us ++ xs) ≡ upsA m n i us ++ upsF ar (m + sizes us) ps xs
+  ups-args nil ar m n i ps xs w = let z : m + 0 ≡ m = omega arith in rw z
+  ups-args (cons t us) ar m n i ps xs w =
+      let a = ups-flat t ar m (suc (n * 8 + i)) (kids n (suc i) (count us) ++ ps) (itemsA us ++ xs) (w .0) in
+      let b = ups-args us ar (m + size t) n (suc i) ps xs (w .1) in
+      let z : m + size t + sizes us ≡ m + (size t + sizes us) = omega arith in
+      let c = rw z at b in
+      rw (append-assoc, append-assoc) (a ∙ ap (λ (l : List ℕ). upsT m (suc (n * 8 + i)) t ++ l) c)
+
+pub ups-term : (t : Tm) (ar : ℕ → ℕ) → Shaped ar t → upsF ar 0 (0 ∷ []) (itemsT t) ≡ upsT 0 0 t
+unfolding upsF
+ups-term t ar w = let h = ups-flat t ar 0 0 [] [] w in rw (append-nil, append-nil) at h

@@ -1,0 +1,259 @@
+// The store over the lent tables: opening, insert, delete, and the key question (document 01, 'Store').
+use chains::find;
+use chains::roomy;
+use laws::low;
+use laws::low16;
+use laws::wide;
+use laws::wide16;
+use layout::long_enough;
+use slots::SlotSet;
+use terms::Checked;
+use terms::Refusal;
+use terms::arity;
+use terms::item;
+use walks::label_of;
+
+pub enum Opened {
+    Open,
+    Refused(Refusal),
+}
+
+pub enum Inserted {
+    Slot(usize),
+    Refused(Refusal),
+}
+
+pub enum Deleted {
+    Slot(usize),
+    Refused(Refusal),
+}
+
+pub enum Listed {
+    Slots(usize),
+    Refused(Refusal),
+}
+
+fn clear64(words: &mut [u64], n: usize) {
+    let mut i: usize = 0;
+    while i < n {
+        words[i] = 0;
+        i += 1;
+    }
+}
+
+fn clear32(label: &mut [u32]) {
+    let mut i: usize = 0;
+    while i < 4096 {
+        label[i] = 0;
+        i += 1;
+    }
+}
+
+// All keys on the chain of the free ones, in order; every other chain empty.
+fn free_all(link: &mut [u16]) {
+    let mut i: usize = 0;
+    while i < 4095 {
+        link[i] = low16(i + 2);
+        i += 1;
+    }
+    link[4095] = 0;
+    clear_heads(link);
+    link[8189] = 1;
+}
+
+fn clear_heads(link: &mut [u16]) {
+    let mut i: usize = 4096;
+    while i < 8189 {
+        link[i] = 0;
+        i += 1;
+    }
+}
+
+// Empties the key table and the sets.
+fn clear_index(
+    link: &mut [u16],
+    label: &mut [u32],
+    s0: &mut [u64],
+    s1: &mut [u64],
+    s2: &mut [u64],
+    s3: &mut [u64],
+) {
+    free_all(link);
+    clear32(label);
+    clear64(s0, 8192);
+    clear64(s1, 8192);
+    clear64(s2, 8192);
+    clear64(s3, 8192);
+}
+
+// Sets the signature and empties all.
+pub fn open(
+    bytes: &mut [u8],
+    used: &mut [u64],
+    label: &mut [u32],
+    link: &mut [u16],
+    s0: &mut [u64],
+    s1: &mut [u64],
+    s2: &mut [u64],
+    s3: &mut [u64],
+    sig: &[u8],
+) -> Opened {
+    if !long_enough(bytes, used, label, link, s0, s1, s2, s3) {
+        return Opened::Refused(Refusal::Table);
+    }
+    let checked = terms::check_signature(sig);
+    if let Checked::Refused(why) = checked {
+        return Opened::Refused(why);
+    }
+    layout::put_signature(bytes, sig);
+    clear64(used, 8);
+    clear_index(link, label, s0, s1, s2, s3);
+    Opened::Open
+}
+
+// A term's items as its keys need them.
+pub struct Outline {
+    pub items: usize,
+    pub ups: [u8; 32],
+    pub ends: [u16; 32],
+}
+
+// The outline of a checked term.
+fn outline_of(sig: &[u8], t: &[u8]) -> Outline {
+    let mut items = [0u16; 32];
+    let mut ups = [0u8; 32];
+    let mut ends = [0u16; 32];
+    let mut stack = [0u16; 257];
+    let n = outline::decode(t, &mut items);
+    outline::ends(&items[..n], &mut ends);
+    let m = outline::ups(sig, &items[..n], &mut ups, &mut stack);
+    Outline {
+        items: m,
+        ups: ups,
+        ends: ends,
+    }
+}
+
+// Adds the keys of a term to the index, with its slot; whether they fit.
+fn add_keys(
+    link: &mut [u16],
+    label: &mut [u32],
+    s0: &mut [u64],
+    s1: &mut [u64],
+    s2: &mut [u64],
+    s3: &mut [u64],
+    o: Outline,
+    slot: usize,
+) -> bool {
+    let n = o.items;
+    let ups = o.ups;
+    let ends = o.ends;
+    let mut keys = [0u16; 32];
+    walks::locate(link, label, &ups[..n], &ends[..n], &mut keys);
+    if !roomy(link, walks::missing(&keys[..n])) {
+        return false;
+    }
+    walks::insert_all(
+        link,
+        label,
+        s0,
+        s1,
+        s2,
+        s3,
+        &ups[..n],
+        &ends[..n],
+        &mut keys,
+        slot,
+    );
+    true
+}
+
+// Takes a slot out of the keys of its term.
+fn drop_keys(
+    link: &mut [u16],
+    label: &mut [u32],
+    s0: &mut [u64],
+    s1: &mut [u64],
+    s2: &mut [u64],
+    s3: &mut [u64],
+    o: Outline,
+    slot: usize,
+) {
+    let n = o.items;
+    let ups = o.ups;
+    let ends = o.ends;
+    let mut keys = [0u16; 32];
+    walks::locate(link, label, &ups[..n], &ends[..n], &mut keys);
+    walks::delete_all(link, label, s0, s1, s2, s3, &keys, n, slot);
+}
+
+// Takes the smallest slot not in use.
+pub fn insert(
+    bytes: &mut [u8],
+    used: &mut [u64],
+    label: &mut [u32],
+    link: &mut [u16],
+    s0: &mut [u64],
+    s1: &mut [u64],
+    s2: &mut [u64],
+    s3: &mut [u64],
+    t: &[u8],
+) -> Inserted {
+    if !long_enough(bytes, used, label, link, s0, s1, s2, s3) {
+        return Inserted::Refused(Refusal::Table);
+    }
+    let sig = layout::signature(bytes);
+    let checked = terms::check(sig, t);
+    if let Checked::Refused(why) = checked {
+        return Inserted::Refused(why);
+    }
+    let set = layout::slots_used(used);
+    let slot = set.complement().least();
+    if 512 <= slot {
+        return Inserted::Refused(Refusal::Full);
+    }
+    let o = outline_of(sig, t);
+    if !add_keys(link, label, s0, s1, s2, s3, o, slot) {
+        return Inserted::Refused(Refusal::Keys);
+    }
+    layout::put_term(bytes, slot, t);
+    layout::put_used(used, set.insert(slot));
+    Inserted::Slot(slot)
+}
+
+// Is the slot one of those in use.
+pub fn in_use(used: &[u64], slot: usize) -> bool {
+    if 512 <= slot {
+        return false;
+    }
+    layout::slots_used(used).contains(slot)
+}
+
+// Frees the slot.
+pub fn delete(
+    bytes: &mut [u8],
+    used: &mut [u64],
+    label: &mut [u32],
+    link: &mut [u16],
+    s0: &mut [u64],
+    s1: &mut [u64],
+    s2: &mut [u64],
+    s3: &mut [u64],
+    slot: usize,
+) -> Deleted {
+    if !long_enough(bytes, used, label, link, s0, s1, s2, s3) {
+        return Deleted::Refused(Refusal::Table);
+    }
+    if !in_use(used, slot) {
+        return Deleted::Refused(Refusal::Slot);
+    }
+    let sig = layout::signature(bytes);
+    let t = layout::term(bytes, slot);
+    let checked = terms::check(sig, t);
+    if let Checked::Good = checked {
+        let o = outline_of(sig, t);
+        drop_keys(link, label, s0, s1, s2, s3, o, slot);
+    }
+    layout::put_used(used, layout::slots_used(used).remove(slot));
+    Deleted::Slot(slot)
+}
