@@ -386,26 +386,15 @@ fn damaged(mut random: Random) -> Vec<u8> {
     let kind = random.below(8);
     let signature = invent::signature(&mut random);
     let mut writer = Writer::new(random, signature);
-    let before = writer.random().between(0, 30);
-    for _ in 0..before {
+    for _ in 0..writer.random().between(0, 30) {
         writer.step(5, &[45, 15, 25, 15]);
     }
     match kind {
         0 => bad_field(&mut writer),
         1 => second_signature(&mut writer),
-        2 => {
-            let length = writer.log.len();
-            let cut = writer.random().between(1, length.min(200));
-            writer.log.truncate(length - cut);
-            return writer.log;
-        }
+        2 => return cut_log(writer),
         3 => return without_signature(writer),
-        4 => {
-            for _ in 0..writer.random().between(1, 4) {
-                let place = writer.inventor.random.below(writer.log.len());
-                writer.log[place] = writer.inventor.random.byte();
-            }
-        }
+        4 => spoil_bytes(&mut writer),
         5 => {
             // A length that reaches beyond the end.
             let tag = writer.random().between(1, 5) as u8;
@@ -418,6 +407,20 @@ fn damaged(mut random: Random) -> Vec<u8> {
         writer.step(5, &[45, 15, 25, 15]);
     }
     writer.log
+}
+
+fn cut_log(mut writer: Writer) -> Vec<u8> {
+    let length = writer.log.len();
+    let cut = writer.random().between(1, length.min(200));
+    writer.log.truncate(length - cut);
+    writer.log
+}
+
+fn spoil_bytes(writer: &mut Writer) {
+    for _ in 0..writer.random().between(1, 4) {
+        let place = writer.inventor.random.below(writer.log.len());
+        writer.log[place] = writer.inventor.random.byte();
+    }
 }
 
 fn bad_opening(mut random: Random) -> Vec<u8> {

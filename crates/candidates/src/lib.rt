@@ -12,7 +12,8 @@ use walks::place_below;
 ghost use mathlib.Core.Path.{_≡_};
 ghost use Prim.Native.Nat.{ℕ, _+_, _-_, _*_, _/_, _≤_, _<_};
 ghost use lib.ListN.{length, getD};
-ghost use Rattle.bank.specs.Bank.{Long};
+ghost use Rattle.walks.specs.Fill.{Sized};
+ghost use Rattle.candidates.specs.Ends.{EndsFrom};
 
 // Which variables agree with anything at their place: the question's, the stored term's.
 pub struct Rule {
@@ -46,6 +47,23 @@ pub fn rule_of(relation: usize) -> Rule {
     }
 }
 
+// The slots of `within` whose term has a variable at the place.
+fn star_at(
+    link: &[u16],
+    label: &[u32],
+    s0: &[u64],
+    s1: &[u64],
+    s2: &[u64],
+    s3: &[u64],
+    place: u32,
+    within: SlotSet,
+) -> SlotSet
+    requires { ⌜ Sized (now link) (now label) (now s0) (now s1) (now s2) (now s3) × (place < 40000) ⌝ }
+{
+    let k = find(link, label, label_of(place, 256));
+    meet(s0, s1, s2, s3, k, within)
+}
+
 // The slots of `within` whose term agrees with the question's term at item `at`, at the place with this number.
 fn narrow(
     link: &[u16],
@@ -61,7 +79,10 @@ fn narrow(
     place: u32,
     levels: usize,
     within: SlotSet,
-) -> SlotSet {
+) -> SlotSet
+    requires { ⌜ Sized (now link) (now label) (now s0) (now s1) (now s2) (now s3) ⌝ }
+    requires { ⌜ (at < length (now items)) × (length (now items) ≤ at + levels) × (length (now items) ≤ 32) × (length (now items) ≤ length (now ends)) × EndsFrom 0 (length (now items)) (now ends) × (place < 40000) ⌝ }
+{
     if within.is_empty() {
         return within;
     }
@@ -104,21 +125,17 @@ fn narrow(
         child = wide(ends[child]);
     }
     if rule.stars {
-        let star = meet(
-            s0,
-            s1,
-            s2,
-            s3,
-            find(link, label, label_of(place, 256)),
-            within,
-        );
+        let star = star_at(link, label, s0, s1, s2, s3, place, within);
         return deep.or(star);
     }
     deep
 }
 
 // Where the term at item i ends, from the ends of later items.
-fn end_after(sig: &[u8], items: &[u16], ends: &[u8], i: usize) -> usize {
+fn end_after(sig: &[u8], items: &[u16], ends: &[u8; 32], i: usize) -> usize
+    requires { ⌜ (i < length (now items)) × (length (now items) ≤ 32) × EndsFrom (i + 1) (length (now items)) (now ends) ⌝ }
+    ensures { λ r. ⌜ (i < r) × (r ≤ length (now (items .entry))) ⌝ }
+{
     let mut e = i + 1;
     let mut a = arity(sig, wide16(items[i]));
     while 0 < a {
@@ -132,7 +149,10 @@ fn end_after(sig: &[u8], items: &[u16], ends: &[u8], i: usize) -> usize {
 }
 
 // Where the term at each item ends, from the last item to the first.
-fn find_ends(sig: &[u8], items: &[u16], ends: &mut [u8; 32]) {
+fn find_ends(sig: &[u8], items: &[u16], ends: &mut [u8; 32])
+    requires { ⌜ (length (now items) ≤ 32) × (length (now ends) ≡ 32) ⌝ }
+    ensures { λ _. ⌜ EndsFrom 0 (length (now (items .entry))) (now (ends .exit)) ⌝ }
+{
     let mut i = items.len();
     while 0 < i {
         i -= 1;
@@ -152,7 +172,9 @@ pub fn candidates(
     relation: usize,
     question: &[u8],
     used: SlotSet,
-) -> SlotSet {
+) -> SlotSet
+    requires { ⌜ Sized (now link) (now label) (now s0) (now s1) (now s2) (now s3) × (2 ≤ length (now question)) × (length (now question) ≤ 64) ⌝ }
+{
     let mut items = [0u16; 32];
     let mut ends = [0u8; 32];
     let n = decode(question, &mut items);

@@ -110,6 +110,14 @@ pub fn slots_used(used: &[u64]) -> SlotSet {
     }
 }
 
+// Is the slot one of those in use.
+pub fn in_use(used: &[u64], slot: usize) -> bool {
+    if 512 <= slot {
+        return false;
+    }
+    slots_used(used).contains(slot)
+}
+
 // Copies `from` to the place `at`.
 fn copy(bytes: &mut [u8], at: usize, from: &[u8]) {
     let mut i: usize = 0;

@@ -24,7 +24,7 @@ use lib.Seq.{drop-cons}
 use native.Mathlib.Omega.{arith}
 use borrow.Author.Tests.{eq-eqb, ne-eqb}
 use Rattle.laws.specs.Digits.{bit, bit-and, bit-or, bit-pow-same, bit-pow-other, bit-suc, bit-zero}
-use Rattle.slots.specs.Slots.{has, inserted, removed, both, either, size, words8, Next}
+use Rattle.slots.specs.Slots.{has, inserted, removed, both, either, words8, Next}
 
 -- what an insert does to each slot
 pub has-insert-same : (ws : List ℕ) (s : ℕ) → s < 64 * length ws → has (inserted ws s) s ≡ 1
@@ -56,16 +56,6 @@ getD-both (u ∷ us) (v ∷ vs) (suc i) h = getD-both us vs i (omega arith)
 pub has-both : (us vs : List ℕ) (x : ℕ) → length us ≡ length vs → has (both us vs) x ≡ min (has us x) (has vs x)
 unfolding has
 has-both us vs x h = rw (getD-both us vs (x / 64) h, bit-and)
-
--- the size of a word is the number of its members
-unfoldable pub members : ℕ → ℕ → ℕ
-members zero w = 0
-members (suc k) w = w % 2 + members k (w / 2)
-
-pub ones-members : (k w : ℕ) → w < 2 ^ k → ones w ≡ members k w
-unfolding members
-ones-members zero w h = let e : w ≡ 0 = omega arith in rw e (unfold ones in refl)
-ones-members (suc k) w h = let g = rw pow-suc at h in rw ones-step (ap (λ (x : ℕ). w % 2 + x) (ones-members k (w / 2) (omega arith)))
 
 here-under : (k w d : ℕ) → (trailingZeros k (w / 2) < k → bit (w / 2) (trailingZeros k (w / 2)) ≡ 1) → w % 2 ≡ d
     → under d (trailingZeros k (w / 2)) < suc k → bit w (under d (trailingZeros k (w / 2))) ≡ 1
@@ -99,14 +89,6 @@ length-both (u ∷ us) (v ∷ vs) h = ap suc (length-both us vs (omega arith))
 -- what owning a set tells of its words
 pub words-8 : (ws : List ℕ) → length (map (λ (v : ℕ). v) ws) ≡ 8 → length ws ≡ 8
 words-8 ws h = sym (length-map ws (λ (v : ℕ). v)) ∙ h
-
-pub size-step : (ws : List ℕ) (i : ℕ) → i < length ws → size (drop i ws) ≡ ones (getD ws i 0) + size (drop (i + 1) ws)
-unfolding size
-size-step ws i h = rw (add-one, drop-cons ws i 0 h)
-
-pub size-end : (ws : List ℕ) (i : ℕ) → length ws ≤ i → size (drop i ws) ≡ 0
-unfolding size
-size-end ws i h = rw drop-of-length-le
 
 pub getD-words8 : (f : ℕ → ℕ) (i : ℕ) → i < 8 → getD (words8 f) i 0 ≡ f i
 unfolding words8

@@ -6,7 +6,7 @@ use mathlib.Core.Bool.{Bool, true, false}
 use lib.ListN.{length, getD, set, take, drop}
 use lib.Dec.{ltb, leb, eqb}
 use lib.Bits.{bitAnd, bitOr, bitXor}
-use lib.Count.{ones, trailingZeros}
+use Rattle.laws.specs.Choice.{pick}
 use Rattle.laws.specs.Digits.{bit}
 
 -- 1 where the slot s is in the set, else 0
@@ -47,6 +47,16 @@ pub record Next (ws : List ℕ) (from r : ℕ) : Type 0 where
   pub member : r < 512 → has ws r ≡ 1
   pub none : (x : ℕ) → from ≤ x → x < r → has ws x ≡ 0
 
-unfoldable pub size : List ℕ → ℕ
-size [] = 0
-size (w ∷ ws) = ones w + size ws
+-- the slots of the set among the k from `from` on, ascending
+unfoldable pub membersFrom : List ℕ → ℕ → ℕ → List ℕ
+membersFrom ws from zero = []
+membersFrom ws from (suc k) = pick (eqb (has ws from) 1) (from ∷ membersFrom ws (suc from) k) (membersFrom ws (suc from) k)
+
+-- the slots of the set, ascending
+unfoldable pub members : List ℕ → List ℕ
+members ws = membersFrom ws 0 512
+
+-- a listing: two bytes a slot, high byte first (document 01, 'Numbers of refusal')
+unfoldable pub listed : List ℕ → List ℕ
+listed [] = []
+listed (s ∷ ss) = s / 256 ∷ s % 256 ∷ listed ss

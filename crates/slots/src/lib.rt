@@ -1,18 +1,20 @@
 // A set of the slots 0 to 511: slot s in word s / 64 at weight 2^(s mod 64) (document 01, 'Paths and keys').
+use laws::low;
 ghost use mathlib.Core.Path.{_≡_};
 ghost use mathlib.Core.List.{List};
 ghost use Prim.Native.Nat.{_+_, _-_, _*_, _/_, _%_, _^_, _≤_, _<_};
 ghost use lib.Count.{ones, trailingZeros};
 ghost use lib.Dec.{eqb};
 ghost use lib.ListN.{length, getD, set, replicate};
-ghost use Rattle.slots.specs.Slots.{has, inserted, removed, both, either, others, size, noneIn, Next};
+ghost use lib.Seq.{sets};
+ghost use Rattle.slots.specs.Slots.{has, inserted, removed, both, either, others, members, listed, noneIn, Next};
 
 pub struct SlotSet {
     pub words: [u64; 8],
 }
 
 fn ones_of(w: u64) -> usize
-    ensures { λ r. ⌜ (r ≡ ones w) × (r ≤ 64) ⌝ }
+    ensures { λ r. ⌜ (r ≡ ones w) × (r ≤ 64) × (w < 2 ^ 64) ⌝ }
 {
     u64::count_ones(w) as usize
 }
@@ -114,7 +116,7 @@ impl SlotSet {
     }
 
     pub fn size(self) -> usize
-        ensures { λ r. ⌜ r ≡ size (self .words) ⌝ }
+        ensures { λ r. ⌜ (r ≡ length (members (self .words))) × (r ≤ 512) ⌝ }
     {
         let mut n: usize = 0;
         let mut i: usize = 0;
@@ -166,5 +168,20 @@ impl SlotSet {
         ensures { λ r. ⌜ Next (self .words) 0 r ⌝ }
     {
         self.next(0)
+    }
+
+    // Writes the slots, ascending, two bytes each, high byte first (document 01, 'Numbers of refusal').
+    pub fn list(self, out: &mut [u8])
+        requires { ⌜ 2 * length (members (self .words)) ≤ length (now out) ⌝ }
+        ensures { λ _. ⌜ now (out .exit) ≡ sets (now (out .entry)) 0 (listed (members (self .words))) ⌝ }
+    {
+        let mut at: usize = 0;
+        let mut slot = self.next(0);
+        while slot < 512 {
+            out[at] = low(slot / 256);
+            out[at + 1] = low(slot % 256);
+            at += 2;
+            slot = self.next(slot + 1);
+        }
     }
 }

@@ -221,14 +221,6 @@ pub fn insert(
     Inserted::Slot(slot)
 }
 
-// Is the slot one of those in use.
-pub fn in_use(used: &[u64], slot: usize) -> bool {
-    if 512 <= slot {
-        return false;
-    }
-    layout::slots_used(used).contains(slot)
-}
-
 // Frees the slot.
 pub fn delete(
     bytes: &mut [u8],
@@ -244,7 +236,7 @@ pub fn delete(
     if !long_enough(bytes, used, label, link, s0, s1, s2, s3) {
         return Deleted::Refused(Refusal::Table);
     }
-    if !in_use(used, slot) {
+    if !layout::in_use(used, slot) {
         return Deleted::Refused(Refusal::Slot);
     }
     let sig = layout::signature(bytes);
@@ -256,4 +248,55 @@ pub fn delete(
     }
     layout::put_used(used, layout::slots_used(used).remove(slot));
     Deleted::Slot(slot)
+}
+
+// The key that the bytes name, or 4096.
+fn key_number(link: &[u16], label: &[u32], key: &[u8]) -> usize {
+    let steps = key.len() / 3;
+    let mut place: u32 = 32776;
+    let mut i: usize = 0;
+    while i < steps {
+        let k = find(link, label, label_of(place, low16(item(key, 3 * i))));
+        place = walks::place_of(k, key[3 * i + 2]);
+        i += 1;
+    }
+    find(
+        link,
+        label,
+        label_of(place, end_number(item(key, 3 * steps))),
+    )
+}
+
+// The end of a key as its label has it: the star is 256.
+fn end_number(e: usize) -> u16 {
+    if e < 256 { low16(e) } else { 256 }
+}
+
+// The slots in use whose term has the key.
+pub fn with_key(
+    bytes: &[u8],
+    used: &[u64],
+    label: &[u32],
+    link: &[u16],
+    s0: &[u64],
+    s1: &[u64],
+    s2: &[u64],
+    s3: &[u64],
+    key: &[u8],
+    out: &mut [u8],
+) -> Listed {
+    if !long_enough(bytes, used, label, link, s0, s1, s2, s3) {
+        return Listed::Refused(Refusal::Table);
+    }
+    if !keys::is_key(layout::signature(bytes), key) {
+        return Listed::Refused(Refusal::Key);
+    }
+    let k = key_number(link, label, key);
+    let set = bank::meet(s0, s1, s2, s3, k, layout::slots_used(used));
+    let n = set.size();
+    if out.len() < 2 * n {
+        return Listed::Refused(Refusal::Room);
+    }
+    set.list(out);
+    Listed::Slots(n)
 }

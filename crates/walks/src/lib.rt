@@ -190,3 +190,17 @@ pub fn place_below(k: usize) -> u32
 {
     (k * 8) as u32
 }
+
+// The number of the place of argument i, counted from 1, below key k.
+pub fn place_of(k: usize, i: u8) -> u32
+    requires { ⌜ (k ≤ 4096) × (1 ≤ i) ⌝ }
+    ensures { λ r. ⌜ r ≡ k * 8 + (i - 1) ⌝ }
+{
+    place_below(k) + narrow8(i) - 1
+}
+
+fn narrow8(x: u8) -> u32
+    ensures { λ r. ⌜ (r ≡ x) × (r < 256) ⌝ }
+{
+    x as u32
+}

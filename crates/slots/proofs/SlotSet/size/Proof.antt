@@ -1,20 +1,20 @@
-use Prim.Native.Nat.{_≤_, _-_, _+_, _<_, _*_}
+use Prim.Native.Nat.{ℕ, _≤_, _-_, _+_, _<_, _*_}
 use mathlib.Core.Path.{_≡_, refl, sym, ap, _∙_}
 use native.Mathlib.Omega.{arith}
-use lib.ListN.{length, drop, getD}
-use Rattle.slots.specs.Slots.{size}
-use Rattle.slots.proofs.Laws.{words-8, size-step, size-end}
+use lib.ListN.{length, getD}
+use Rattle.slots.specs.Slots.{members}
+use Rattle.slots.proofs.Listing.{tally, tally-ones, size-start, size-end}
 use Rattle.slots.proofs.SlotSet.size.Statement.{statement}
 use Rattle.slots.proofs.SlotSet.size.Tie as tie
 
 abbrev Inv-loop : tie.InvT-loop
-Inv-loop self n₀ i₀ n i = (i ≤ 8) × (n ≤ 64 * i) × (size (self .words) ≡ n + size (drop i (self .words)))
+Inv-loop self n₀ i₀ n i = (i ≤ 8) × (n ≤ 64 * i) × (n ≡ tally (self .words) 0 (64 * i))
 
 abbrev μ-loop : tie.MeasureT-loop
 μ-loop self n₀ i₀ n i = 8 - i
 
 loop-holds : tie.Need-loop-holds Inv-loop μ-loop
-loop-holds c = (omega arith, omega arith, omega arith)
+loop-holds c = (omega arith, omega arith, sym (size-start ((c) .args .t1 .words)))
 
 mul-ones-of : tie.Need-mul-ones-of Inv-loop μ-loop
 mul-ones-of c = omega arith
@@ -35,15 +35,12 @@ loop-less : tie.Need-loop-less Inv-loop μ-loop
 loop-less c = omega arith
 
 loop-again : tie.Need-loop-again Inv-loop μ-loop
-loop-again c = let l = c .before .before .before .loop in
-    let a = c .before .before .before .before in
-    let s = size-step (a .args .t1 .words) (l .i) (omega (arith, c .before .before .loop-test .taken, words-8 (a .args .t1 .words) (a .good .0 .1 .1 .0 .1 .0 .1))) in
-    (omega arith, omega arith, omega (arith, s, l .inv .2, c .ones-of .ensures .0))
+loop-again c = let l = (c .before .before .before .loop) in
+    let e = (c .ones-of) .ensures in
+    (omega arith, omega arith, omega (arith, tally-ones ((c .before .before .before .before) .args .t1 .words) (l .i) (e .2), l .inv .2, e .0))
 
 returns : tie.Need-returns Inv-loop μ-loop
-returns c = let l = c .before .loop in
-    let a = c .before .before in
-    omega (arith, size-end (a .args .t1 .words) (l .i) (omega (arith, words-8 (a .args .t1 .words) (a .good .0 .1 .1 .0 .1 .0 .1))), l .inv .2)
+returns c = let l = (c .before .loop) in (l .inv .2 ∙ size-end ((c .before .before) .args .t1 .words) (l .i) (omega arith), omega arith)
 
 pub size-spec : {M : Type 1} → statement M
 size-spec =
