@@ -73,7 +73,7 @@ fn narrow(
     s2: &[u64],
     s3: &[u64],
     items: &[u16],
-    ends: &[u8],
+    ends: &[u8; 32],
     rule: Rule,
     at: usize,
     place: u32,
@@ -81,7 +81,7 @@ fn narrow(
     within: SlotSet,
 ) -> SlotSet
     requires { ⌜ Sized (now link) (now label) (now s0) (now s1) (now s2) (now s3) ⌝ }
-    requires { ⌜ (at < length (now items)) × (length (now items) ≤ at + levels) × (length (now items) ≤ 32) × (length (now items) ≤ length (now ends)) × EndsFrom 0 (length (now items)) (now ends) × (place < 40000) ⌝ }
+    requires { ⌜ (at < length (now items)) × (length (now items) ≤ at + levels) × (length (now items) ≤ 32) × EndsFrom 0 (length (now items)) (now ends) × (place < 40000) ⌝ }
 {
     if within.is_empty() {
         return within;
@@ -91,14 +91,7 @@ fn narrow(
         if rule.open {
             return within;
         }
-        return meet(
-            s0,
-            s1,
-            s2,
-            s3,
-            find(link, label, label_of(place, 256)),
-            within,
-        );
+        return star_at(link, label, s0, s1, s2, s3, place, within);
     }
     let k = find(link, label, label_of(place, x));
     let mut deep = meet(s0, s1, s2, s3, k, within);

@@ -1,3 +1,10 @@
+use Prim.Native.Nat.{_≤_, _-_, _+_, _*_}
+use mathlib.Core.Path.{_≡_, refl, sym, ap, _∙_}
+use native.Mathlib.Omega.{arith}
+use borrow.Author.Needs.{needs}
+use lib.ListN.{length, getD}
+use Rattle.paths.specs.Locate.{find-le}
+use Rattle.walks.specs.Fill.{Sized}
 use Prim.Native.Nat.{ℕ, _<_}
 use borrow.Fn.Kinds.{In}
 use borrow.Fn.PlainCycle.{Measures, is, falls, and}
@@ -5,6 +12,7 @@ use Rattle.candidates.proofs.narrow.Reads as narrow
 use Rattle.candidates.proofs.narrow.Kinds as narrow-kinds
 use Rattle.candidates.proofs.+narrow.Lts-narrow as narrow-lts
 use Rattle.bank.proofs.meet.Reads as meet-reads
+use Rattle.candidates.proofs.star_at.Reads as star-at-reads
 use Rattle.chains.proofs.find.Reads as find-reads
 use Rattle.laws.proofs.wide.Reads as wide-reads
 use Rattle.slots.proofs.SlotSet.is_empty.Reads as is-empty-reads
@@ -15,7 +23,7 @@ use Rattle.candidates.proofs.+narrow.{statement}
 use Rattle.candidates.proofs.+narrow.Tie.{close}
 
 abbrev μ-narrow : Measures 8 narrow-kinds.ps ℕ
-μ-narrow κs a = ?
+μ-narrow κs a = a .1 .1 .1 .1 .1 .1 .1 .1 .1 .1 .1 .0
 
 abbrev narrow-at : ℕ → In 8 narrow-kinds.ps
 narrow-at t = and 8 narrow-kinds.ps (is 8 narrow-kinds.ps μ-narrow t) narrow.Pre
@@ -23,663 +31,106 @@ narrow-at t = and 8 narrow-kinds.ps (is 8 narrow-kinds.ps μ-narrow t) narrow.Pr
 abbrev narrow-below : ℕ → In 8 narrow-kinds.ps
 narrow-below t = and 8 narrow-kinds.ps (falls 8 narrow-kinds.ps _<_ μ-narrow t) narrow.Pre
 
+abbrev R : ℕ → narrow-lts.Claims
+R t = (is-empty-reads.Asked, is-empty-reads.Learnt, star-at-reads.Asked, star-at-reads.Learnt, label-of-reads.Asked, label-of-reads.Learnt, find-reads.Asked, find-reads.Learnt, meet-reads.Asked, meet-reads.Learnt, wide-reads.Asked, wide-reads.Learnt, place-below-reads.Asked, place-below-reads.Learnt, narrow-below t, narrow.Post, or-reads.Asked, or-reads.Learnt)
+
 abbrev narrow-Inv-loop : narrow-lts.InvT-loop
-narrow-Inv-loop link label s0 s1 s2 s3 items ends rule at place levels within x k deep₀ end child₀ next₀ deep child next =
-    ?
+narrow-Inv-loop link label s0 s1 s2 s3 items ends rule at place levels within x k deep₀ end child₀ next₀ deep child next = (at < child) × (next ≤ 32768 + child) × (end ≤ length items)
 
 abbrev narrow-μ-loop : narrow-lts.MeasureT-loop
-narrow-μ-loop link label s0 s1 s2 s3 items ends rule at place levels within x k deep₀ end child₀ next₀ deep child next =
-    ?
+narrow-μ-loop link label s0 s1 s2 s3 items ends rule at place levels within x k deep₀ end child₀ next₀ deep child next = end - child
 
--- src/lib.rt:69:8
-narrow-is-empty-requires : (t : ℕ) → narrow-lts.Need-is-empty-requires (
-  is-empty-reads.Asked,
-  is-empty-reads.Learnt,
-  label-of-reads.Asked,
-  label-of-reads.Learnt,
-  find-reads.Asked,
-  find-reads.Learnt,
-  meet-reads.Asked,
-  meet-reads.Learnt,
-  wide-reads.Asked,
-  wide-reads.Learnt,
-  place-below-reads.Asked,
-  place-below-reads.Learnt,
-  narrow-below t,
-  narrow.Post,
-  or-reads.Asked,
-  or-reads.Learnt,
-) (narrow-at t) narrow.Post narrow-Inv-loop narrow-μ-loop
-narrow-is-empty-requires t c κs = ?
+narrow-is-empty-requires : (t : ℕ) → narrow-lts.Need-is-empty-requires (R t) (narrow-at t) narrow.Post narrow-Inv-loop narrow-μ-loop
+narrow-is-empty-requires t c κs = tt
 
--- src/lib.rt:70:9
-narrow-returns : (t : ℕ) → narrow-lts.Need-returns (
-  is-empty-reads.Asked,
-  is-empty-reads.Learnt,
-  label-of-reads.Asked,
-  label-of-reads.Learnt,
-  find-reads.Asked,
-  find-reads.Learnt,
-  meet-reads.Asked,
-  meet-reads.Learnt,
-  wide-reads.Asked,
-  wide-reads.Learnt,
-  place-below-reads.Asked,
-  place-below-reads.Learnt,
-  narrow-below t,
-  narrow.Post,
-  or-reads.Asked,
-  or-reads.Learnt,
-) (narrow-at t) narrow.Post narrow-Inv-loop narrow-μ-loop
-narrow-returns t c = ?
+narrow-returns : (t : ℕ) → narrow-lts.Need-returns (R t) (narrow-at t) narrow.Post narrow-Inv-loop narrow-μ-loop
+narrow-returns t c = tt
 
--- src/lib.rt:72:13
-narrow-mul-x : (t : ℕ) → narrow-lts.Need-mul-x (
-  is-empty-reads.Asked,
-  is-empty-reads.Learnt,
-  label-of-reads.Asked,
-  label-of-reads.Learnt,
-  find-reads.Asked,
-  find-reads.Learnt,
-  meet-reads.Asked,
-  meet-reads.Learnt,
-  wide-reads.Asked,
-  wide-reads.Learnt,
-  place-below-reads.Asked,
-  place-below-reads.Learnt,
-  narrow-below t,
-  narrow.Post,
-  or-reads.Asked,
-  or-reads.Learnt,
-) (narrow-at t) narrow.Post narrow-Inv-loop narrow-μ-loop
-narrow-mul-x t c = ?
+narrow-mul-x : (t : ℕ) → narrow-lts.Need-mul-x (R t) (narrow-at t) narrow.Post narrow-Inv-loop narrow-μ-loop
+narrow-mul-x t c = omega (arith, (c .before .before .before .before .before .before .before .before .before) .pre .1 .1)
 
--- src/lib.rt:72:13
-narrow-shared-slice-read-x : (t : ℕ) → narrow-lts.Need-shared-slice-read-x (
-  is-empty-reads.Asked,
-  is-empty-reads.Learnt,
-  label-of-reads.Asked,
-  label-of-reads.Learnt,
-  find-reads.Asked,
-  find-reads.Learnt,
-  meet-reads.Asked,
-  meet-reads.Learnt,
-  wide-reads.Asked,
-  wide-reads.Learnt,
-  place-below-reads.Asked,
-  place-below-reads.Learnt,
-  narrow-below t,
-  narrow.Post,
-  or-reads.Asked,
-  or-reads.Learnt,
-) (narrow-at t) narrow.Post narrow-Inv-loop narrow-μ-loop
-narrow-shared-slice-read-x t c = ?
+narrow-shared-slice-read-x : (t : ℕ) → narrow-lts.Need-shared-slice-read-x (R t) (narrow-at t) narrow.Post narrow-Inv-loop narrow-μ-loop
+narrow-shared-slice-read-x t c = omega (arith, (c .before .before .before .before .before .before .before .before .before .before) .pre .1 .1)
 
--- src/lib.rt:75:13
-narrow-returns-2 : (t : ℕ) → narrow-lts.Need-returns-2 (
-  is-empty-reads.Asked,
-  is-empty-reads.Learnt,
-  label-of-reads.Asked,
-  label-of-reads.Learnt,
-  find-reads.Asked,
-  find-reads.Learnt,
-  meet-reads.Asked,
-  meet-reads.Learnt,
-  wide-reads.Asked,
-  wide-reads.Learnt,
-  place-below-reads.Asked,
-  place-below-reads.Learnt,
-  narrow-below t,
-  narrow.Post,
-  or-reads.Asked,
-  or-reads.Learnt,
-) (narrow-at t) narrow.Post narrow-Inv-loop narrow-μ-loop
-narrow-returns-2 t c = ?
+narrow-returns-2 : (t : ℕ) → narrow-lts.Need-returns-2 (R t) (narrow-at t) narrow.Post narrow-Inv-loop narrow-μ-loop
+narrow-returns-2 t c = tt
 
--- src/lib.rt:82:31
-narrow-label-of-requires : (t : ℕ) → narrow-lts.Need-label-of-requires (
-  is-empty-reads.Asked,
-  is-empty-reads.Learnt,
-  label-of-reads.Asked,
-  label-of-reads.Learnt,
-  find-reads.Asked,
-  find-reads.Learnt,
-  meet-reads.Asked,
-  meet-reads.Learnt,
-  wide-reads.Asked,
-  wide-reads.Learnt,
-  place-below-reads.Asked,
-  place-below-reads.Learnt,
-  narrow-below t,
-  narrow.Post,
-  or-reads.Asked,
-  or-reads.Learnt,
-) (narrow-at t) narrow.Post narrow-Inv-loop narrow-μ-loop
-narrow-label-of-requires t c κs = ?
+narrow-star-at-requires : (t : ℕ) → narrow-lts.Need-star-at-requires (R t) (narrow-at t) narrow.Post narrow-Inv-loop narrow-μ-loop
+narrow-star-at-requires t c κs = ((c .before .before .before .before .before .before .before .before .before .before .before .before) .pre .1 .0, (c .before .before .before .before .before .before .before .before .before .before .before .before) .pre .1 .1 .4)
 
--- src/lib.rt:82:13
-narrow-find-requires : (t : ℕ) → narrow-lts.Need-find-requires (
-  is-empty-reads.Asked,
-  is-empty-reads.Learnt,
-  label-of-reads.Asked,
-  label-of-reads.Learnt,
-  find-reads.Asked,
-  find-reads.Learnt,
-  meet-reads.Asked,
-  meet-reads.Learnt,
-  wide-reads.Asked,
-  wide-reads.Learnt,
-  place-below-reads.Asked,
-  place-below-reads.Learnt,
-  narrow-below t,
-  narrow.Post,
-  or-reads.Asked,
-  or-reads.Learnt,
-) (narrow-at t) narrow.Post narrow-Inv-loop narrow-μ-loop
-narrow-find-requires t c κs = ?
+narrow-returns-3 : (t : ℕ) → narrow-lts.Need-returns-3 (R t) (narrow-at t) narrow.Post narrow-Inv-loop narrow-μ-loop
+narrow-returns-3 t c = tt
 
--- src/lib.rt:77:9
-narrow-meet-requires : (t : ℕ) → narrow-lts.Need-meet-requires (
-  is-empty-reads.Asked,
-  is-empty-reads.Learnt,
-  label-of-reads.Asked,
-  label-of-reads.Learnt,
-  find-reads.Asked,
-  find-reads.Learnt,
-  meet-reads.Asked,
-  meet-reads.Learnt,
-  wide-reads.Asked,
-  wide-reads.Learnt,
-  place-below-reads.Asked,
-  place-below-reads.Learnt,
-  narrow-below t,
-  narrow.Post,
-  or-reads.Asked,
-  or-reads.Learnt,
-) (narrow-at t) narrow.Post narrow-Inv-loop narrow-μ-loop
-narrow-meet-requires t c κs = ?
+narrow-label-of-requires : (t : ℕ) → narrow-lts.Need-label-of-requires (R t) (narrow-at t) narrow.Post narrow-Inv-loop narrow-μ-loop
+narrow-label-of-requires t c κs = omega (arith, (c .before .before .before .before .before .before .before .before .before .before .before) .pre .1 .1 .4)
 
--- src/lib.rt:77:9
-narrow-returns-3 : (t : ℕ) → narrow-lts.Need-returns-3 (
-  is-empty-reads.Asked,
-  is-empty-reads.Learnt,
-  label-of-reads.Asked,
-  label-of-reads.Learnt,
-  find-reads.Asked,
-  find-reads.Learnt,
-  meet-reads.Asked,
-  meet-reads.Learnt,
-  wide-reads.Asked,
-  wide-reads.Learnt,
-  place-below-reads.Asked,
-  place-below-reads.Learnt,
-  narrow-below t,
-  narrow.Post,
-  or-reads.Asked,
-  or-reads.Learnt,
-) (narrow-at t) narrow.Post narrow-Inv-loop narrow-μ-loop
-narrow-returns-3 t c = ?
+narrow-find-requires : (t : ℕ) → narrow-lts.Need-find-requires (R t) (narrow-at t) narrow.Post narrow-Inv-loop narrow-μ-loop
+narrow-find-requires t c κs = let z = (c .before .before .before .before .before .before .before .before .before .before .before .before) .pre .1 .0 in (z .links, z .labels)
 
--- src/lib.rt:86:31
-narrow-label-of-requires-2 : (t : ℕ) → narrow-lts.Need-label-of-requires-2 (
-  is-empty-reads.Asked,
-  is-empty-reads.Learnt,
-  label-of-reads.Asked,
-  label-of-reads.Learnt,
-  find-reads.Asked,
-  find-reads.Learnt,
-  meet-reads.Asked,
-  meet-reads.Learnt,
-  wide-reads.Asked,
-  wide-reads.Learnt,
-  place-below-reads.Asked,
-  place-below-reads.Learnt,
-  narrow-below t,
-  narrow.Post,
-  or-reads.Asked,
-  or-reads.Learnt,
-) (narrow-at t) narrow.Post narrow-Inv-loop narrow-μ-loop
-narrow-label-of-requires-2 t c κs = ?
+narrow-meet-requires : (t : ℕ) → narrow-lts.Need-meet-requires (R t) (narrow-at t) narrow.Post narrow-Inv-loop narrow-μ-loop
+narrow-meet-requires t c κs = let z = (c .before .before .before .before .before .before .before .before .before .before .before .before .before) .pre .1 .0 in record { l0 = z .l0; l1 = z .l1; l2 = z .l2; l3 = z .l3 }
 
--- src/lib.rt:86:9
-narrow-find-requires-2 : (t : ℕ) → narrow-lts.Need-find-requires-2 (
-  is-empty-reads.Asked,
-  is-empty-reads.Learnt,
-  label-of-reads.Asked,
-  label-of-reads.Learnt,
-  find-reads.Asked,
-  find-reads.Learnt,
-  meet-reads.Asked,
-  meet-reads.Learnt,
-  wide-reads.Asked,
-  wide-reads.Learnt,
-  place-below-reads.Asked,
-  place-below-reads.Learnt,
-  narrow-below t,
-  narrow.Post,
-  or-reads.Asked,
-  or-reads.Learnt,
-) (narrow-at t) narrow.Post narrow-Inv-loop narrow-μ-loop
-narrow-find-requires-2 t c κs = ?
+narrow-element-copy-out-wide : (t : ℕ) → narrow-lts.Need-element-copy-out-wide (R t) (narrow-at t) narrow.Post narrow-Inv-loop narrow-μ-loop
+narrow-element-copy-out-wide t c = omega (arith, (c .before .before .before .before .before .before .before .before .before .before .before .before .before .before) .pre .1 .1)
 
--- src/lib.rt:87:9
-narrow-meet-requires-2 : (t : ℕ) → narrow-lts.Need-meet-requires-2 (
-  is-empty-reads.Asked,
-  is-empty-reads.Learnt,
-  label-of-reads.Asked,
-  label-of-reads.Learnt,
-  find-reads.Asked,
-  find-reads.Learnt,
-  meet-reads.Asked,
-  meet-reads.Learnt,
-  wide-reads.Asked,
-  wide-reads.Learnt,
-  place-below-reads.Asked,
-  place-below-reads.Learnt,
-  narrow-below t,
-  narrow.Post,
-  or-reads.Asked,
-  or-reads.Learnt,
-) (narrow-at t) narrow.Post narrow-Inv-loop narrow-μ-loop
-narrow-meet-requires-2 t c κs = ?
+narrow-wide-requires : (t : ℕ) → narrow-lts.Need-wide-requires (R t) (narrow-at t) narrow.Post narrow-Inv-loop narrow-μ-loop
+narrow-wide-requires t c κs = tt
 
--- src/lib.rt:88:20
-narrow-shared-slice-read-wide : (t : ℕ) → narrow-lts.Need-shared-slice-read-wide (
-  is-empty-reads.Asked,
-  is-empty-reads.Learnt,
-  label-of-reads.Asked,
-  label-of-reads.Learnt,
-  find-reads.Asked,
-  find-reads.Learnt,
-  meet-reads.Asked,
-  meet-reads.Learnt,
-  wide-reads.Asked,
-  wide-reads.Learnt,
-  place-below-reads.Asked,
-  place-below-reads.Learnt,
-  narrow-below t,
-  narrow.Post,
-  or-reads.Asked,
-  or-reads.Learnt,
-) (narrow-at t) narrow.Post narrow-Inv-loop narrow-μ-loop
-narrow-shared-slice-read-wide t c = ?
+narrow-add-child : (t : ℕ) → narrow-lts.Need-add-child (R t) (narrow-at t) narrow.Post narrow-Inv-loop narrow-μ-loop
+narrow-add-child t c = omega (arith, (c .before .before .before .before .before .before .before .before .before .before .before .before .before .before .before .before) .pre .1 .1)
 
--- src/lib.rt:88:9
-narrow-wide-requires : (t : ℕ) → narrow-lts.Need-wide-requires (
-  is-empty-reads.Asked,
-  is-empty-reads.Learnt,
-  label-of-reads.Asked,
-  label-of-reads.Learnt,
-  find-reads.Asked,
-  find-reads.Learnt,
-  meet-reads.Asked,
-  meet-reads.Learnt,
-  wide-reads.Asked,
-  wide-reads.Learnt,
-  place-below-reads.Asked,
-  place-below-reads.Learnt,
-  narrow-below t,
-  narrow.Post,
-  or-reads.Asked,
-  or-reads.Learnt,
-) (narrow-at t) narrow.Post narrow-Inv-loop narrow-μ-loop
-narrow-wide-requires t c κs = ?
+narrow-place-below-requires : (t : ℕ) → narrow-lts.Need-place-below-requires (R t) (narrow-at t) narrow.Post narrow-Inv-loop narrow-μ-loop
+narrow-place-below-requires t c κs = rw ((c .before .before .before .find) .ensures) (find-le _ _ _)
 
--- src/lib.rt:89:21
-narrow-add-child : (t : ℕ) → narrow-lts.Need-add-child (
-  is-empty-reads.Asked,
-  is-empty-reads.Learnt,
-  label-of-reads.Asked,
-  label-of-reads.Learnt,
-  find-reads.Asked,
-  find-reads.Learnt,
-  meet-reads.Asked,
-  meet-reads.Learnt,
-  wide-reads.Asked,
-  wide-reads.Learnt,
-  place-below-reads.Asked,
-  place-below-reads.Learnt,
-  narrow-below t,
-  narrow.Post,
-  or-reads.Asked,
-  or-reads.Learnt,
-) (narrow-at t) narrow.Post narrow-Inv-loop narrow-μ-loop
-narrow-add-child t c = ?
+narrow-loop-holds : (t : ℕ) → narrow-lts.Need-loop-holds (R t) (narrow-at t) narrow.Post narrow-Inv-loop narrow-μ-loop
+narrow-loop-holds t c = let p = (c .before .before .before .before .before .before .before .before .before .before .before .before .before .before .before .before .before) .pre .1 .1 in
+    let h : (c .before .before .before .before .find) .result ≤ 4096 = rw ((c .before .before .before .before .find) .ensures) (find-le _ _ _) in
+    let e = p .3 ((c .before .before .before .before .before .before .before .before .before .before .before .before .before .before .before .before .before) .args .at) (omega arith) (p .0) in
+    (omega arith, omega (arith, (c .place-below) .ensures), omega (arith, (c .before .wide) .ensures .0, e .1))
 
--- src/lib.rt:90:9
-narrow-place-below-requires : (t : ℕ) → narrow-lts.Need-place-below-requires (
-  is-empty-reads.Asked,
-  is-empty-reads.Learnt,
-  label-of-reads.Asked,
-  label-of-reads.Learnt,
-  find-reads.Asked,
-  find-reads.Learnt,
-  meet-reads.Asked,
-  meet-reads.Learnt,
-  wide-reads.Asked,
-  wide-reads.Learnt,
-  place-below-reads.Asked,
-  place-below-reads.Learnt,
-  narrow-below t,
-  narrow.Post,
-  or-reads.Asked,
-  or-reads.Learnt,
-) (narrow-at t) narrow.Post narrow-Inv-loop narrow-μ-loop
-narrow-place-below-requires t c κs = ?
+narrow-sub-narrow : (t : ℕ) → narrow-lts.Need-sub-narrow (R t) (narrow-at t) narrow.Post narrow-Inv-loop narrow-μ-loop
+narrow-sub-narrow t c = let p = (c .before .before .before .before .before .before .before .before .before .before .before .before .before .before .before .before .before .before .before) .pre .1 .1 in let l = (c .before .loop) in omega (arith, l .inv .0, l .inv .2, (c .loop-test) .taken, p .1)
 
--- src/lib.rt:91:5
-narrow-loop-holds : (t : ℕ) → narrow-lts.Need-loop-holds (
-  is-empty-reads.Asked,
-  is-empty-reads.Learnt,
-  label-of-reads.Asked,
-  label-of-reads.Learnt,
-  find-reads.Asked,
-  find-reads.Learnt,
-  meet-reads.Asked,
-  meet-reads.Learnt,
-  wide-reads.Asked,
-  wide-reads.Learnt,
-  place-below-reads.Asked,
-  place-below-reads.Learnt,
-  narrow-below t,
-  narrow.Post,
-  or-reads.Asked,
-  or-reads.Learnt,
-) (narrow-at t) narrow.Post narrow-Inv-loop narrow-μ-loop
-narrow-loop-holds t c = ?
+narrow-narrow-requires : (t : ℕ) → narrow-lts.Need-narrow-requires (R t) (narrow-at t) narrow.Post narrow-Inv-loop narrow-μ-loop
+narrow-narrow-requires t c κs = let p = (c .before .before .before .before .before .before .before .before .before .before .before .before .before .before .before .before .before .before .before) .pre .1 .1 in
+    let l = (c .before .loop) in (
+      omega (arith, (c .before .before .before .before .before .before .before .before .before .before .before .before .before .before .before .before .before .before .before) .pre .0, l .inv .0, l .inv .2, (c .loop-test) .taken, p .1),
+      ((c .before .before .before .before .before .before .before .before .before .before .before .before .before .before .before .before .before .before .before) .pre .1 .0, (omega (arith, l .inv .2, (c .loop-test) .taken), omega (arith, l .inv .0, p .1), p .2, p .3, omega (arith, l .inv .1, l .inv .2, (c .loop-test) .taken, p .2))),
+    )
 
--- src/lib.rt:104:13
-narrow-sub-narrow : (t : ℕ) → narrow-lts.Need-sub-narrow (
-  is-empty-reads.Asked,
-  is-empty-reads.Learnt,
-  label-of-reads.Asked,
-  label-of-reads.Learnt,
-  find-reads.Asked,
-  find-reads.Learnt,
-  meet-reads.Asked,
-  meet-reads.Learnt,
-  wide-reads.Asked,
-  wide-reads.Learnt,
-  place-below-reads.Asked,
-  place-below-reads.Learnt,
-  narrow-below t,
-  narrow.Post,
-  or-reads.Asked,
-  or-reads.Learnt,
-) (narrow-at t) narrow.Post narrow-Inv-loop narrow-μ-loop
-narrow-sub-narrow t c = ?
+narrow-add-next : (t : ℕ) → narrow-lts.Need-add-next (R t) (narrow-at t) narrow.Post narrow-Inv-loop narrow-μ-loop
+narrow-add-next t c = let p = (c .before .before .before .before .before .before .before .before .before .before .before .before .before .before .before .before .before .before .before .before) .pre .1 .1 in let l = (c .before .before .loop) in omega (arith, l .inv .1, l .inv .2, (c .before .loop-test) .taken, p .2)
 
--- src/lib.rt:92:9
-narrow-narrow-requires : (t : ℕ) → narrow-lts.Need-narrow-requires (
-  is-empty-reads.Asked,
-  is-empty-reads.Learnt,
-  label-of-reads.Asked,
-  label-of-reads.Learnt,
-  find-reads.Asked,
-  find-reads.Learnt,
-  meet-reads.Asked,
-  meet-reads.Learnt,
-  wide-reads.Asked,
-  wide-reads.Learnt,
-  place-below-reads.Asked,
-  place-below-reads.Learnt,
-  narrow-below t,
-  narrow.Post,
-  or-reads.Asked,
-  or-reads.Learnt,
-) (narrow-at t) narrow.Post narrow-Inv-loop narrow-μ-loop
-narrow-narrow-requires t c κs = ?
+narrow-element-copy-out-wide-2 : (t : ℕ) → narrow-lts.Need-element-copy-out-wide-2 (R t) (narrow-at t) narrow.Post narrow-Inv-loop narrow-μ-loop
+narrow-element-copy-out-wide-2 t c = let p = (c .before .before .before .before .before .before .before .before .before .before .before .before .before .before .before .before .before .before .before .before) .pre .1 .1 in let l = (c .before .before .loop) in omega (arith, l .inv .2, (c .before .loop-test) .taken, p .2)
 
--- src/lib.rt:107:9
-narrow-add-next : (t : ℕ) → narrow-lts.Need-add-next (
-  is-empty-reads.Asked,
-  is-empty-reads.Learnt,
-  label-of-reads.Asked,
-  label-of-reads.Learnt,
-  find-reads.Asked,
-  find-reads.Learnt,
-  meet-reads.Asked,
-  meet-reads.Learnt,
-  wide-reads.Asked,
-  wide-reads.Learnt,
-  place-below-reads.Asked,
-  place-below-reads.Learnt,
-  narrow-below t,
-  narrow.Post,
-  or-reads.Asked,
-  or-reads.Learnt,
-) (narrow-at t) narrow.Post narrow-Inv-loop narrow-μ-loop
-narrow-add-next t c = ?
+narrow-wide-requires-2 : (t : ℕ) → narrow-lts.Need-wide-requires-2 (R t) (narrow-at t) narrow.Post narrow-Inv-loop narrow-μ-loop
+narrow-wide-requires-2 t c κs = tt
 
--- src/lib.rt:108:22
-narrow-shared-slice-read-wide-2 : (t : ℕ) → narrow-lts.Need-shared-slice-read-wide-2 (
-  is-empty-reads.Asked,
-  is-empty-reads.Learnt,
-  label-of-reads.Asked,
-  label-of-reads.Learnt,
-  find-reads.Asked,
-  find-reads.Learnt,
-  meet-reads.Asked,
-  meet-reads.Learnt,
-  wide-reads.Asked,
-  wide-reads.Learnt,
-  place-below-reads.Asked,
-  place-below-reads.Learnt,
-  narrow-below t,
-  narrow.Post,
-  or-reads.Asked,
-  or-reads.Learnt,
-) (narrow-at t) narrow.Post narrow-Inv-loop narrow-μ-loop
-narrow-shared-slice-read-wide-2 t c = ?
+narrow-loop-less : (t : ℕ) → narrow-lts.Need-loop-less (R t) (narrow-at t) narrow.Post narrow-Inv-loop narrow-μ-loop
+narrow-loop-less t c = let p = (c .before .before .before .before .before .before .before .before .before .before .before .before .before .before .before .before .before .before .before .before .before .before) .pre .1 .1 in let l = (c .before .before .before .before .loop) in
+    let e = p .3 (l .child) (omega arith) (omega (arith, l .inv .2, (c .before .before .before .loop-test) .taken)) in
+    omega (arith, e .0, (c .wide2) .ensures .0, (c .before .before .before .loop-test) .taken)
 
--- src/lib.rt:108:9
-narrow-wide-requires-2 : (t : ℕ) → narrow-lts.Need-wide-requires-2 (
-  is-empty-reads.Asked,
-  is-empty-reads.Learnt,
-  label-of-reads.Asked,
-  label-of-reads.Learnt,
-  find-reads.Asked,
-  find-reads.Learnt,
-  meet-reads.Asked,
-  meet-reads.Learnt,
-  wide-reads.Asked,
-  wide-reads.Learnt,
-  place-below-reads.Asked,
-  place-below-reads.Learnt,
-  narrow-below t,
-  narrow.Post,
-  or-reads.Asked,
-  or-reads.Learnt,
-) (narrow-at t) narrow.Post narrow-Inv-loop narrow-μ-loop
-narrow-wide-requires-2 t c κs = ?
+narrow-loop-again : (t : ℕ) → narrow-lts.Need-loop-again (R t) (narrow-at t) narrow.Post narrow-Inv-loop narrow-μ-loop
+narrow-loop-again t c = let p = (c .before .before .before .before .before .before .before .before .before .before .before .before .before .before .before .before .before .before .before .before .before .before) .pre .1 .1 in let l = (c .before .before .before .before .loop) in
+    let e = p .3 (l .child) (omega arith) (omega (arith, l .inv .2, (c .before .before .before .loop-test) .taken)) in
+    (omega (arith, l .inv .0, e .0, (c .wide2) .ensures .0), omega (arith, l .inv .1, e .0, (c .wide2) .ensures .0), l .inv .2)
 
--- src/lib.rt:91:5
-narrow-loop-less : (t : ℕ) → narrow-lts.Need-loop-less (
-  is-empty-reads.Asked,
-  is-empty-reads.Learnt,
-  label-of-reads.Asked,
-  label-of-reads.Learnt,
-  find-reads.Asked,
-  find-reads.Learnt,
-  meet-reads.Asked,
-  meet-reads.Learnt,
-  wide-reads.Asked,
-  wide-reads.Learnt,
-  place-below-reads.Asked,
-  place-below-reads.Learnt,
-  narrow-below t,
-  narrow.Post,
-  or-reads.Asked,
-  or-reads.Learnt,
-) (narrow-at t) narrow.Post narrow-Inv-loop narrow-μ-loop
-narrow-loop-less t c = ?
+narrow-star-at-requires-2 : (t : ℕ) → narrow-lts.Need-star-at-requires-2 (R t) (narrow-at t) narrow.Post narrow-Inv-loop narrow-μ-loop
+narrow-star-at-requires-2 t c κs = ((c .before .before .before .before .before .before .before .before .before .before .before .before .before .before .before .before .before .before .before .before) .pre .1 .0, (c .before .before .before .before .before .before .before .before .before .before .before .before .before .before .before .before .before .before .before .before) .pre .1 .1 .4)
 
--- src/lib.rt:91:5
-narrow-loop-again : (t : ℕ) → narrow-lts.Need-loop-again (
-  is-empty-reads.Asked,
-  is-empty-reads.Learnt,
-  label-of-reads.Asked,
-  label-of-reads.Learnt,
-  find-reads.Asked,
-  find-reads.Learnt,
-  meet-reads.Asked,
-  meet-reads.Learnt,
-  wide-reads.Asked,
-  wide-reads.Learnt,
-  place-below-reads.Asked,
-  place-below-reads.Learnt,
-  narrow-below t,
-  narrow.Post,
-  or-reads.Asked,
-  or-reads.Learnt,
-) (narrow-at t) narrow.Post narrow-Inv-loop narrow-μ-loop
-narrow-loop-again t c = ?
+narrow-or-requires : (t : ℕ) → narrow-lts.Need-or-requires (R t) (narrow-at t) narrow.Post narrow-Inv-loop narrow-μ-loop
+narrow-or-requires t c κs = tt
 
--- src/lib.rt:116:31
-narrow-label-of-requires-3 : (t : ℕ) → narrow-lts.Need-label-of-requires-3 (
-  is-empty-reads.Asked,
-  is-empty-reads.Learnt,
-  label-of-reads.Asked,
-  label-of-reads.Learnt,
-  find-reads.Asked,
-  find-reads.Learnt,
-  meet-reads.Asked,
-  meet-reads.Learnt,
-  wide-reads.Asked,
-  wide-reads.Learnt,
-  place-below-reads.Asked,
-  place-below-reads.Learnt,
-  narrow-below t,
-  narrow.Post,
-  or-reads.Asked,
-  or-reads.Learnt,
-) (narrow-at t) narrow.Post narrow-Inv-loop narrow-μ-loop
-narrow-label-of-requires-3 t c κs = ?
+narrow-returns-4 : (t : ℕ) → narrow-lts.Need-returns-4 (R t) (narrow-at t) narrow.Post narrow-Inv-loop narrow-μ-loop
+narrow-returns-4 t c = tt
 
--- src/lib.rt:116:13
-narrow-find-requires-3 : (t : ℕ) → narrow-lts.Need-find-requires-3 (
-  is-empty-reads.Asked,
-  is-empty-reads.Learnt,
-  label-of-reads.Asked,
-  label-of-reads.Learnt,
-  find-reads.Asked,
-  find-reads.Learnt,
-  meet-reads.Asked,
-  meet-reads.Learnt,
-  wide-reads.Asked,
-  wide-reads.Learnt,
-  place-below-reads.Asked,
-  place-below-reads.Learnt,
-  narrow-below t,
-  narrow.Post,
-  or-reads.Asked,
-  or-reads.Learnt,
-) (narrow-at t) narrow.Post narrow-Inv-loop narrow-μ-loop
-narrow-find-requires-3 t c κs = ?
-
--- src/lib.rt:111:13
-narrow-meet-requires-3 : (t : ℕ) → narrow-lts.Need-meet-requires-3 (
-  is-empty-reads.Asked,
-  is-empty-reads.Learnt,
-  label-of-reads.Asked,
-  label-of-reads.Learnt,
-  find-reads.Asked,
-  find-reads.Learnt,
-  meet-reads.Asked,
-  meet-reads.Learnt,
-  wide-reads.Asked,
-  wide-reads.Learnt,
-  place-below-reads.Asked,
-  place-below-reads.Learnt,
-  narrow-below t,
-  narrow.Post,
-  or-reads.Asked,
-  or-reads.Learnt,
-) (narrow-at t) narrow.Post narrow-Inv-loop narrow-μ-loop
-narrow-meet-requires-3 t c κs = ?
-
--- src/lib.rt:119:9
-narrow-or-requires : (t : ℕ) → narrow-lts.Need-or-requires (
-  is-empty-reads.Asked,
-  is-empty-reads.Learnt,
-  label-of-reads.Asked,
-  label-of-reads.Learnt,
-  find-reads.Asked,
-  find-reads.Learnt,
-  meet-reads.Asked,
-  meet-reads.Learnt,
-  wide-reads.Asked,
-  wide-reads.Learnt,
-  place-below-reads.Asked,
-  place-below-reads.Learnt,
-  narrow-below t,
-  narrow.Post,
-  or-reads.Asked,
-  or-reads.Learnt,
-) (narrow-at t) narrow.Post narrow-Inv-loop narrow-μ-loop
-narrow-or-requires t c κs = ?
-
--- src/lib.rt:119:9
-narrow-returns-4 : (t : ℕ) → narrow-lts.Need-returns-4 (
-  is-empty-reads.Asked,
-  is-empty-reads.Learnt,
-  label-of-reads.Asked,
-  label-of-reads.Learnt,
-  find-reads.Asked,
-  find-reads.Learnt,
-  meet-reads.Asked,
-  meet-reads.Learnt,
-  wide-reads.Asked,
-  wide-reads.Learnt,
-  place-below-reads.Asked,
-  place-below-reads.Learnt,
-  narrow-below t,
-  narrow.Post,
-  or-reads.Asked,
-  or-reads.Learnt,
-) (narrow-at t) narrow.Post narrow-Inv-loop narrow-μ-loop
-narrow-returns-4 t c = ?
-
--- src/lib.rt:51:1
-narrow-returns-5 : (t : ℕ) → narrow-lts.Need-returns-5 (
-  is-empty-reads.Asked,
-  is-empty-reads.Learnt,
-  label-of-reads.Asked,
-  label-of-reads.Learnt,
-  find-reads.Asked,
-  find-reads.Learnt,
-  meet-reads.Asked,
-  meet-reads.Learnt,
-  wide-reads.Asked,
-  wide-reads.Learnt,
-  place-below-reads.Asked,
-  place-below-reads.Learnt,
-  narrow-below t,
-  narrow.Post,
-  or-reads.Asked,
-  or-reads.Learnt,
-) (narrow-at t) narrow.Post narrow-Inv-loop narrow-μ-loop
-narrow-returns-5 t c = ?
+narrow-returns-5 : (t : ℕ) → narrow-lts.Need-returns-5 (R t) (narrow-at t) narrow.Post narrow-Inv-loop narrow-μ-loop
+narrow-returns-5 t c = tt
 
 pub +narrow-spec : {M : Type 1} → statement M
-+narrow-spec = close μ-narrow λ t. narrow-lts.spec (
-  is-empty-reads.Asked,
-  is-empty-reads.Learnt,
-  label-of-reads.Asked,
-  label-of-reads.Learnt,
-  find-reads.Asked,
-  find-reads.Learnt,
-  meet-reads.Asked,
-  meet-reads.Learnt,
-  wide-reads.Asked,
-  wide-reads.Learnt,
-  place-below-reads.Asked,
-  place-below-reads.Learnt,
-  narrow-below t,
-  narrow.Post,
-  or-reads.Asked,
-  or-reads.Learnt,
-)
++narrow-spec = close μ-narrow λ t. narrow-lts.spec (R t)
     (narrow-at t)
     narrow.Post
     narrow-Inv-loop
@@ -689,14 +140,12 @@ pub +narrow-spec : {M : Type 1} → statement M
     (narrow-mul-x t)
     (narrow-shared-slice-read-x t)
     (narrow-returns-2 t)
+    (narrow-star-at-requires t)
+    (narrow-returns-3 t)
     (narrow-label-of-requires t)
     (narrow-find-requires t)
     (narrow-meet-requires t)
-    (narrow-returns-3 t)
-    (narrow-label-of-requires-2 t)
-    (narrow-find-requires-2 t)
-    (narrow-meet-requires-2 t)
-    (narrow-shared-slice-read-wide t)
+    (narrow-element-copy-out-wide t)
     (narrow-wide-requires t)
     (narrow-add-child t)
     (narrow-place-below-requires t)
@@ -704,13 +153,11 @@ pub +narrow-spec : {M : Type 1} → statement M
     (narrow-sub-narrow t)
     (narrow-narrow-requires t)
     (narrow-add-next t)
-    (narrow-shared-slice-read-wide-2 t)
+    (narrow-element-copy-out-wide-2 t)
     (narrow-wide-requires-2 t)
     (narrow-loop-less t)
     (narrow-loop-again t)
-    (narrow-label-of-requires-3 t)
-    (narrow-find-requires-3 t)
-    (narrow-meet-requires-3 t)
+    (narrow-star-at-requires-2 t)
     (narrow-or-requires t)
     (narrow-returns-4 t)
     (narrow-returns-5 t)

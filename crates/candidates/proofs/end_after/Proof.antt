@@ -1,68 +1,56 @@
+use Prim.Native.Nat.{_≤_, _-_, _+_, _<_, _*_}
+use native.Mathlib.Omega.{arith}
+use borrow.Author.Needs.{needs}
+use lib.ListN.{length, getD}
 use Rattle.candidates.proofs.end_after.Statement.{statement}
 use Rattle.candidates.proofs.end_after.Tie as tie
-use Rattle.candidates.proofs.end_after.Reads as reads
-use Rattle.candidates.proofs.end_after.Lts as lts
-use Rattle.laws.proofs.wide.Reads as wide-reads
-use Rattle.laws.proofs.wide16.Reads as wide16-reads
-use Rattle.terms.proofs.arity.Reads as arity-reads
 
 abbrev Inv-loop : tie.InvT-loop
-Inv-loop sig items ends i e₀ a₀ e a = ?
+Inv-loop sig items ends i e₀ a₀ e a = (i < e) × (e ≤ length items)
 
 abbrev μ-loop : tie.MeasureT-loop
-μ-loop sig items ends i e₀ a₀ e a = ?
+μ-loop sig items ends i e₀ a₀ e a = a
 
--- src/lib.rt:129:17
 add-e : tie.Need-add-e Inv-loop μ-loop
-add-e c = ?
+add-e c = omega arith
 
--- src/lib.rt:130:35
 mul-wide16 : tie.Need-mul-wide16 Inv-loop μ-loop
-mul-wide16 c = ?
+mul-wide16 c = omega arith
 
--- src/lib.rt:130:35
 shared-slice-read-wide16 : tie.Need-shared-slice-read-wide16 Inv-loop μ-loop
-shared-slice-read-wide16 c = ?
+shared-slice-read-wide16 c = omega arith
 
--- src/lib.rt:130:28
 wide16-requires : tie.Need-wide16-requires Inv-loop μ-loop
-wide16-requires c κs = ?
+wide16-requires c κs = search needs
 
--- src/lib.rt:130:9
 arity-requires : tie.Need-arity-requires Inv-loop μ-loop
-arity-requires c κs = ?
+arity-requires c κs = search needs
 
--- src/lib.rt:131:5
 loop-holds : tie.Need-loop-holds Inv-loop μ-loop
-loop-holds c = ?
+loop-holds c = omega arith
 
--- src/lib.rt:133:13
 returns : tie.Need-returns Inv-loop μ-loop
-returns c = ?
+returns c = omega arith
 
--- src/lib.rt:135:18
 element-copy-out-wide : tie.Need-element-copy-out-wide Inv-loop μ-loop
-element-copy-out-wide c = ?
+element-copy-out-wide c = omega (arith, (c .before .before .before .before .before .before .before .before) .pre .1)
 
--- src/lib.rt:135:9
 wide-requires : tie.Need-wide-requires Inv-loop μ-loop
-wide-requires c κs = ?
+wide-requires c κs = search needs
 
--- src/lib.rt:136:9
 sub-a : tie.Need-sub-a Inv-loop μ-loop
-sub-a c = ?
+sub-a c = omega arith
 
--- src/lib.rt:131:5
 loop-less : tie.Need-loop-less Inv-loop μ-loop
-loop-less c = ?
+loop-less c = omega arith
 
--- src/lib.rt:131:5
 loop-again : tie.Need-loop-again Inv-loop μ-loop
-loop-again c = ?
+loop-again c = let l = (c .before .before .before .before .loop) in
+    let h = (c .before .before .before .before .before .before .before .before .before .before) .pre .2 (l .e) (omega arith) (omega arith) in
+    (omega (arith, h .0, l .inv .0, (c .wide) .ensures .0), omega (arith, h .1, (c .wide) .ensures .0))
 
--- src/lib.rt:125:1
 returns-2 : tie.Need-returns-2 Inv-loop μ-loop
-returns-2 c = ?
+returns-2 c = omega arith
 
 pub end-after-spec : {M : Type 1} → statement M
 end-after-spec =
