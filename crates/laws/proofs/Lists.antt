@@ -46,3 +46,7 @@ front-end out out₀ vs i e h = e ∙ ap (sets out₀ 0) (take-all i vs h)
 pub front-start : (out vs : List ℕ) → out ≡ sets out 0 (take 0 vs)
 front-start out [] = refl
 front-start out (v ∷ vs) = refl
+
+pub sets-start : (out : List ℕ) (at : ℕ) (vs : List ℕ) → out ≡ sets out at (take 0 vs)
+sets-start out at [] = refl
+sets-start out at (v ∷ vs) = refl

@@ -1,8 +1,14 @@
-// Where the signature, the slots in use and the terms stand in the lent tables (docs/TABLES.md).
+// How long the lent tables are, and where the signature, the slots in use and the terms stand in them (docs/TABLES.md).
 use laws::low;
 use laws::wide;
 use slots::SlotSet;
+ghost use mathlib.Core.Path.{_≡_};
+ghost use Prim.Native.Nat.{_+_, _-_, _*_, _%_, _≤_, _<_, max};
+ghost use lib.ListN.{length, getD};
+ghost use lib.Seq.{sets};
+ghost use Rattle.layout.specs.Layout.{setsLong, longEnough, largestOf, signatureOf, termOf, usedOf, isUsed, blank, signed, withTerm};
 
+// The tables' lengths, in elements.
 pub const BYTES: usize = 33538;
 
 pub const USED: usize = 8;
@@ -13,14 +19,7 @@ pub const LINK: usize = 8190;
 
 pub const SETS: usize = 8192;
 
-// Where the arities, the terms' lengths and the terms start in the table of bytes.
-pub const ARITIES: usize = 2;
-
-pub const LENGTHS: usize = 258;
-
-pub const TERMS: usize = 770;
-
-// Are the tables as long as docs/TABLES.md says.
+// Are the tables as long as docs/TABLES.md says; refusal 1 otherwise.
 pub fn long_enough(
     bytes: &[u8],
     used: &[u64],
@@ -30,7 +29,9 @@ pub fn long_enough(
     s1: &[u64],
     s2: &[u64],
     s3: &[u64],
-) -> bool {
+) -> bool
+    ensures { λ r. ⌜ r ≡ longEnough (length (now (bytes .entry))) (length (now (used .entry))) (length (now (label .entry))) (length (now (link .entry))) (length (now (s0 .entry))) (length (now (s1 .entry))) (length (now (s2 .entry))) (length (now (s3 .entry))) ⌝ }
+{
     if bytes.len() < BYTES {
         return false;
     }
@@ -43,10 +44,12 @@ pub fn long_enough(
     if link.len() < LINK {
         return false;
     }
-    sets_long_enough(s0, s1, s2, s3)
+    sets_long(s0, s1, s2, s3)
 }
 
-fn sets_long_enough(s0: &[u64], s1: &[u64], s2: &[u64], s3: &[u64]) -> bool {
+fn sets_long(s0: &[u64], s1: &[u64], s2: &[u64], s3: &[u64]) -> bool
+    ensures { λ r. ⌜ r ≡ setsLong (length (now (s0 .entry))) (length (now (s1 .entry))) (length (now (s2 .entry))) (length (now (s3 .entry))) ⌝ }
+{
     if s0.len() < SETS {
         return false;
     }
@@ -59,43 +62,57 @@ fn sets_long_enough(s0: &[u64], s1: &[u64], s2: &[u64], s3: &[u64]) -> bool {
     SETS <= s3.len()
 }
 
+fn larger(a: u8, b: u8) -> u8
+    ensures { λ r. ⌜ r ≡ max a b ⌝ }
+{
+    if a < b { b } else { a }
+}
+
 // The largest of the bytes, or 0.
-fn largest(s: &[u8]) -> u8 {
+fn largest(s: &[u8]) -> u8
+    ensures { λ r. ⌜ r ≡ largestOf (now (s .entry)) ⌝ }
+{
     let mut m: u8 = 0;
     let mut i: usize = 0;
     while i < s.len() {
-        let x = s[i];
-        if m < x {
-            m = x;
-        }
+        m = larger(m, s[i]);
         i += 1;
     }
     m
 }
 
-// The signature; the empty part where no opening wrote one.
-pub fn signature(bytes: &[u8]) -> &[u8] {
+// The signature; the empty part where the bytes hold none, as on memory that no opening made.
+pub fn signature(bytes: &[u8]) -> &[u8]
+    requires { ⌜ 33538 ≤ length (now bytes) ⌝ }
+    ensures { λ r. ⌜ now r ≡ signatureOf (now (bytes .entry)) ⌝ }
+{
     let n = wide(bytes[0]) * 256 + wide(bytes[1]);
     if 256 < n {
         return &bytes[0..0];
     }
-    let end = ARITIES + n;
+    let end = n + 2;
     if 8 < largest(&bytes[2..end]) {
         return &bytes[0..0];
     }
     &bytes[2..end]
 }
 
-// The term of a slot in use.
-pub fn term(bytes: &[u8], slot: usize) -> &[u8] {
-    let n = wide(bytes[LENGTHS + slot]) % 65;
-    let from = TERMS + 64 * slot;
+// The term of a slot in use, as the part of the table where it stands.
+pub fn term(bytes: &[u8], slot: usize) -> &[u8]
+    requires { ⌜ (33538 ≤ length (now bytes)) × (slot < 512) ⌝ }
+    ensures { λ r. ⌜ (now r ≡ termOf (now (bytes .entry)) slot) × (length (now r) ≤ 64) ⌝ }
+{
+    let n = wide(bytes[258 + slot]) % 65;
+    let from = 770 + 64 * slot;
     let to = from + n;
     &bytes[from..to]
 }
 
 // The slots in use.
-pub fn slots_used(used: &[u64]) -> SlotSet {
+pub fn slots_used(used: &[u64]) -> SlotSet
+    requires { ⌜ 8 ≤ length (now used) ⌝ }
+    ensures { λ r. ⌜ r .words ≡ usedOf (now (used .entry)) ⌝ }
+{
     SlotSet {
         words: [
             used[0],
@@ -110,8 +127,11 @@ pub fn slots_used(used: &[u64]) -> SlotSet {
     }
 }
 
-// Is the slot one of those in use.
-pub fn in_use(used: &[u64], slot: usize) -> bool {
+// Is the slot one of those in use; refusal 4 otherwise.
+pub fn in_use(used: &[u64], slot: usize) -> bool
+    requires { ⌜ 8 ≤ length (now used) ⌝ }
+    ensures { λ r. ⌜ r ≡ isUsed (now (used .entry)) slot ⌝ }
+{
     if 512 <= slot {
         return false;
     }
@@ -119,7 +139,10 @@ pub fn in_use(used: &[u64], slot: usize) -> bool {
 }
 
 // Copies `from` to the place `at`.
-fn copy(bytes: &mut [u8], at: usize, from: &[u8]) {
+fn copy(bytes: &mut [u8], at: usize, from: &[u8])
+    requires { ⌜ at + length (now from) ≤ length (now bytes) ⌝ }
+    ensures { λ _. ⌜ now (bytes .exit) ≡ sets (now (bytes .entry)) at (now (from .entry)) ⌝ }
+{
     let mut i: usize = 0;
     while i < from.len() {
         bytes[at + i] = from[i];
@@ -127,16 +150,10 @@ fn copy(bytes: &mut [u8], at: usize, from: &[u8]) {
     }
 }
 
-// Writes the signature over all zeros.
-pub fn put_signature(bytes: &mut [u8], sig: &[u8]) {
-    clear(bytes, BYTES);
-    let n = sig.len();
-    bytes[0] = low(n / 256);
-    bytes[1] = low(n % 256);
-    copy(bytes, ARITIES, sig);
-}
-
-fn clear(bytes: &mut [u8], n: usize) {
+fn clear8(bytes: &mut [u8], n: usize)
+    requires { ⌜ n ≤ length (now bytes) ⌝ }
+    ensures { λ _. ⌜ now (bytes .exit) ≡ blank n (now (bytes .entry)) ⌝ }
+{
     let mut i: usize = 0;
     while i < n {
         bytes[i] = 0;
@@ -144,17 +161,61 @@ fn clear(bytes: &mut [u8], n: usize) {
     }
 }
 
+pub fn clear32(words: &mut [u32], n: usize)
+    requires { ⌜ n ≤ length (now words) ⌝ }
+    ensures { λ _. ⌜ now (words .exit) ≡ blank n (now (words .entry)) ⌝ }
+{
+    let mut i: usize = 0;
+    while i < n {
+        words[i] = 0;
+        i += 1;
+    }
+}
+
+pub fn clear64(words: &mut [u64], n: usize)
+    requires { ⌜ n ≤ length (now words) ⌝ }
+    ensures { λ _. ⌜ now (words .exit) ≡ blank n (now (words .entry)) ⌝ }
+{
+    let mut i: usize = 0;
+    while i < n {
+        words[i] = 0;
+        i += 1;
+    }
+}
+
+// Writes a checked signature over all zeros.
+pub fn put_signature(bytes: &mut [u8], sig: &[u8])
+    requires { ⌜ (33538 ≤ length (now bytes)) × (length (now sig) ≤ 256) ⌝ }
+    ensures { λ _. ⌜ now (bytes .exit) ≡ signed (now (bytes .entry)) (now (sig .entry)) ⌝ }
+{
+    clear8(bytes, BYTES);
+    let n = sig.len();
+    bytes[0] = low(n / 256);
+    bytes[1] = low(n % 256);
+    copy(bytes, 2, sig);
+}
+
 // Writes the term of a slot.
-pub fn put_term(bytes: &mut [u8], slot: usize, t: &[u8]) {
-    bytes[LENGTHS + slot] = low(t.len());
-    copy(bytes, TERMS + 64 * slot, t);
+pub fn put_term(bytes: &mut [u8], slot: usize, t: &[u8])
+    requires { ⌜ (33538 ≤ length (now bytes)) × (slot < 512) × (length (now t) ≤ 64) ⌝ }
+    ensures { λ _. ⌜ now (bytes .exit) ≡ withTerm (now (bytes .entry)) slot (now (t .entry)) ⌝ }
+{
+    bytes[258 + slot] = low(t.len());
+    copy(bytes, 770 + 64 * slot, t);
 }
 
 // Writes the slots in use.
-pub fn put_used(used: &mut [u64], set: SlotSet) {
-    let mut i: usize = 0;
-    while i < 8 {
-        used[i] = set.words[i];
-        i += 1;
-    }
+pub fn put_used(used: &mut [u64], set: SlotSet)
+    requires { ⌜ 8 ≤ length (now used) ⌝ }
+    ensures { λ _. ⌜ now (used .exit) ≡ sets (now (used .entry)) 0 (usedOf (set .words)) ⌝ }
+{
+    let w = set.words;
+    used[0] = w[0];
+    used[1] = w[1];
+    used[2] = w[2];
+    used[3] = w[3];
+    used[4] = w[4];
+    used[5] = w[5];
+    used[6] = w[6];
+    used[7] = w[7];
 }
