@@ -1,10 +1,12 @@
 // Keys by their labels: chains through a table of links.
+use laws::low16;
 use laws::wide16;
 use laws::wide32;
 ghost use mathlib.Core.Path.{_≡_};
 ghost use Prim.Native.Nat.{_+_, _-_, _*_, _%_, _≤_, _<_, suc};
 ghost use lib.ListN.{length, getD, set};
 ghost use Rattle.chains.specs.Chains.{home as homeOf, find as findOf, unlink as unlinkOf, taken, pushed, relinked, longer};
+ghost use Rattle.chains.specs.Opening.{FreeChain, NoHeads, Freed};
 
 fn home(w: u32) -> usize
     ensures { λ r. ⌜ (r ≡ homeOf w) × (4096 ≤ r) × (r < 8190) ⌝ }
@@ -88,4 +90,38 @@ pub fn roomy(link: &[u16], m: usize) -> bool
         i -= 1;
     }
     true
+}
+
+// The free keys in order: each leads to the next one.
+fn free_chain(link: &mut [u16])
+    requires { ⌜ 8190 ≤ length (now link) ⌝ }
+    ensures { λ _. ⌜ FreeChain (now (link .entry)) (now (link .exit)) 4095 ⌝ }
+{
+    let mut i: usize = 0;
+    while i < 4095 {
+        link[i] = low16(i + 2);
+        i += 1;
+    }
+}
+
+// No key on any chain of labels.
+fn clear_heads(link: &mut [u16])
+    requires { ⌜ 8190 ≤ length (now link) ⌝ }
+    ensures { λ _. ⌜ NoHeads (now (link .entry)) (now (link .exit)) 8189 ⌝ }
+{
+    let mut i: usize = 4095;
+    while i < 8189 {
+        link[i] = 0;
+        i += 1;
+    }
+}
+
+// Every key free, in order.
+pub fn free_all(link: &mut [u16])
+    requires { ⌜ 8190 ≤ length (now link) ⌝ }
+    ensures { λ _. ⌜ Freed (now (link .entry)) (now (link .exit)) ⌝ }
+{
+    free_chain(link);
+    clear_heads(link);
+    link[8189] = 1;
 }

@@ -5,12 +5,14 @@ use mathlib.Core.List.{List, [], _∷_, _++_}
 use mathlib.Core.Bool.{Bool, true, false}
 use native.Mathlib.Numerals.{add-one}
 use native.Mathlib.Omega.{arith}
-use borrow.Author.Tests.{ltb-false, leb-true, lt-ltb, le-ltb}
-use lib.Dec.{ltb, leb}
+use borrow.Author.Tests.{ltb-true, ltb-false, leb-true, lt-ltb, le-ltb}
+use lib.Dec.{ltb, leb, eqb}
 use lib.ListN.{length, getD, set, take, drop, replicate, length-take, length-drop, length-set, length-append, length-replicate, drop-of-length-le}
 use lib.Seq.{drop-cons, sets, length-sets}
 use Rattle.laws.specs.Choice.{pick}
-use Rattle.layout.specs.Layout.{setsLong, longEnough, Long, largestOf, arities, signatureOf, termOf, blank, signed, withTerm}
+use Rattle.terms.specs.Terms.{Signed}
+use Rattle.layout.specs.Layout.{setsLong, longEnough, Long, largestOf, arities, signatureOf, termOf, usedOf, isUsed, blank, signed, withTerm}
+use Rattle.slots.specs.Slots.{has}
 
 past : (b : Bool) (x : Bool) → pick b false x ≡ true → (b ≡ false) × (x ≡ true)
 past true x h = absurd (let z : _≡_ {A = ℕ} 0 1 = cc in omega arith)
@@ -52,10 +54,6 @@ largest-le (a ∷ s) zero = omega arith
 largest-le (a ∷ s) (suc x) = omega (arith, largest-le s x)
 
 -- a signature that is read from the table serves every check, whatever the memory held
-pub record Signed (sig : List ℕ) : Type 0 where
-  pub short : length sig ≤ 256
-  pub eight : (x : ℕ) → getD sig x 0 ≤ 8
-
 pub signature-good : (b : List ℕ) → Signed (signatureOf b)
 unfolding signatureOf
 signature-good b = go (ltb 256 (getD b 0 0 * 256 + getD b 1 0)) (ltb 8 (largestOf (arities b))) refl refl
@@ -114,3 +112,11 @@ term-part b s n e =
 pub signed-is : (b sig c : List ℕ) (h l : ℕ) → c ≡ blank 33538 b → h ≡ length sig / 256 → l ≡ length sig % 256 → sets (set (set c 0 h) 1 l) 2 sig ≡ signed b sig
 unfolding signed
 signed-is b sig c h l e f g = rw (e, f, g)
+
+pub in-use-small : (u : List ℕ) (s : ℕ) → isUsed u s ≡ true → s < 512
+unfolding isUsed
+in-use-small u s h = go (ltb s 512) refl h
+  where
+    go : (b : Bool) → ltb s 512 ≡ b → pick b (eqb (has (usedOf u) s) 1) false ≡ true → s < 512
+    go true e p = ltb-true s 512 e
+    go false e p = absurd (let z : _≡_ {A = ℕ} 0 1 = cc in omega arith)

@@ -1,17 +1,21 @@
 // The store over the lent tables: opening, insert, delete, and the key question (document 01, 'Store').
 use chains::find;
+use chains::free_all;
 use chains::roomy;
-use laws::low;
 use laws::low16;
-use laws::wide;
-use laws::wide16;
+use layout::clear32;
+use layout::clear64;
 use layout::long_enough;
-use slots::SlotSet;
 use terms::Checked;
 use terms::Refusal;
-use terms::arity;
 use terms::item;
 use walks::label_of;
+ghost use mathlib.Core.Path.{_≡_};
+ghost use Prim.Native.Nat.{ℕ, _+_, _-_, _*_, _/_, _≤_, _<_};
+ghost use lib.ListN.{length, getD};
+ghost use Rattle.terms.specs.Terms.{Signed};
+ghost use Rattle.walks.specs.Fill.{Sized};
+ghost use Rattle.store.specs.Opening.{Cleared};
 
 pub enum Opened {
     Open,
@@ -33,42 +37,6 @@ pub enum Listed {
     Refused(Refusal),
 }
 
-fn clear64(words: &mut [u64], n: usize) {
-    let mut i: usize = 0;
-    while i < n {
-        words[i] = 0;
-        i += 1;
-    }
-}
-
-fn clear32(label: &mut [u32]) {
-    let mut i: usize = 0;
-    while i < 4096 {
-        label[i] = 0;
-        i += 1;
-    }
-}
-
-// All keys on the chain of the free ones, in order; every other chain empty.
-fn free_all(link: &mut [u16]) {
-    let mut i: usize = 0;
-    while i < 4095 {
-        link[i] = low16(i + 2);
-        i += 1;
-    }
-    link[4095] = 0;
-    clear_heads(link);
-    link[8189] = 1;
-}
-
-fn clear_heads(link: &mut [u16]) {
-    let mut i: usize = 4096;
-    while i < 8189 {
-        link[i] = 0;
-        i += 1;
-    }
-}
-
 // Empties the key table and the sets.
 fn clear_index(
     link: &mut [u16],
@@ -77,9 +45,12 @@ fn clear_index(
     s1: &mut [u64],
     s2: &mut [u64],
     s3: &mut [u64],
-) {
+)
+    requires { ⌜ Sized (now link) (now label) (now s0) (now s1) (now s2) (now s3) ⌝ }
+    ensures { λ _. ⌜ Cleared (now (link .entry)) (now (label .entry)) (now (s0 .entry)) (now (s1 .entry)) (now (s2 .entry)) (now (s3 .entry)) (now (link .exit)) (now (label .exit)) (now (s0 .exit)) (now (s1 .exit)) (now (s2 .exit)) (now (s3 .exit)) ⌝ }
+{
     free_all(link);
-    clear32(label);
+    clear32(label, 4096);
     clear64(s0, 8192);
     clear64(s1, 8192);
     clear64(s2, 8192);
@@ -119,7 +90,10 @@ pub struct Outline {
 }
 
 // The outline of a checked term.
-fn outline_of(sig: &[u8], t: &[u8]) -> Outline {
+fn outline_of(sig: &[u8], t: &[u8]) -> Outline
+    requires { ⌜ Signed (now sig) × (length (now t) ≤ 64) ⌝ }
+    ensures { λ r. ⌜ r .items ≤ 32 ⌝ }
+{
     let mut items = [0u16; 32];
     let mut ups = [0u8; 32];
     let mut ends = [0u16; 32];
@@ -144,7 +118,9 @@ fn add_keys(
     s3: &mut [u64],
     o: Outline,
     slot: usize,
-) -> bool {
+) -> bool
+    requires { ⌜ Sized (now link) (now label) (now s0) (now s1) (now s2) (now s3) × (o .items ≤ 32) × (length (o .ups) ≡ 32) × (length (o .ends) ≡ 32) × (slot < 512) ⌝ }
+{
     let n = o.items;
     let ups = o.ups;
     let ends = o.ends;
@@ -178,7 +154,9 @@ fn drop_keys(
     s3: &mut [u64],
     o: Outline,
     slot: usize,
-) {
+)
+    requires { ⌜ Sized (now link) (now label) (now s0) (now s1) (now s2) (now s3) × (o .items ≤ 32) × (length (o .ups) ≡ 32) × (length (o .ends) ≡ 32) × (slot < 512) ⌝ }
+{
     let n = o.items;
     let ups = o.ups;
     let ends = o.ends;
@@ -221,6 +199,29 @@ pub fn insert(
     Inserted::Slot(slot)
 }
 
+// Takes a slot out of the keys of the term that stands in it. What no insert wrote has no keys.
+fn drop_term(
+    bytes: &[u8],
+    link: &mut [u16],
+    label: &mut [u32],
+    s0: &mut [u64],
+    s1: &mut [u64],
+    s2: &mut [u64],
+    s3: &mut [u64],
+    slot: usize,
+)
+    requires { ⌜ Sized (now link) (now label) (now s0) (now s1) (now s2) (now s3) × (33538 ≤ length (now bytes)) × (slot < 512) ⌝ }
+{
+    let sig = layout::signature(bytes);
+    let t = layout::term(bytes, slot);
+    let checked = terms::check(sig, t);
+    if let Checked::Refused(_) = checked {
+        return;
+    }
+    let o = outline_of(sig, t);
+    drop_keys(link, label, s0, s1, s2, s3, o, slot);
+}
+
 // Frees the slot.
 pub fn delete(
     bytes: &mut [u8],
@@ -239,37 +240,31 @@ pub fn delete(
     if !layout::in_use(used, slot) {
         return Deleted::Refused(Refusal::Slot);
     }
-    let sig = layout::signature(bytes);
-    let t = layout::term(bytes, slot);
-    let checked = terms::check(sig, t);
-    if let Checked::Good = checked {
-        let o = outline_of(sig, t);
-        drop_keys(link, label, s0, s1, s2, s3, o, slot);
-    }
+    drop_term(bytes, link, label, s0, s1, s2, s3, slot);
     layout::put_used(used, layout::slots_used(used).remove(slot));
     Deleted::Slot(slot)
-}
-
-// The key that the bytes name, or 4096.
-fn key_number(link: &[u16], label: &[u32], key: &[u8]) -> usize {
-    let steps = key.len() / 3;
-    let mut place: u32 = 32776;
-    let mut i: usize = 0;
-    while i < steps {
-        let k = find(link, label, label_of(place, low16(item(key, 3 * i))));
-        place = walks::place_of(k, key[3 * i + 2]);
-        i += 1;
-    }
-    find(
-        link,
-        label,
-        label_of(place, end_number(item(key, 3 * steps))),
-    )
 }
 
 // The end of a key as its label has it: the star is 256.
 fn end_number(e: usize) -> u16 {
     if e < 256 { low16(e) } else { 256 }
+}
+
+// The key that the bytes of a key name, or 4096.
+fn key_number(link: &[u16], label: &[u32], key: &[u8]) -> usize
+    requires { ⌜ (8190 ≤ length (now link)) × (4096 ≤ length (now label)) ⌝ }
+{
+    let mut place: u32 = 32776;
+    let mut rest = key;
+    while 2 < rest.len() {
+        let k = find(link, label, label_of(place, low16(item(rest, 0))));
+        place = walks::place_of(k, rest[2]);
+        rest = &rest[3..];
+    }
+    if rest.len() != 2 {
+        return 4096;
+    }
+    find(link, label, label_of(place, end_number(item(rest, 0))))
 }
 
 // The slots in use whose term has the key.

@@ -6,12 +6,15 @@ use lib.Seq.{take-all, drop-nil, drop-drop}
 use native.Mathlib.Nat.{add-assoc, zero-add, suc-add, add-suc}
 use native.Mathlib.Numerals.{one-add, add-one}
 use native.Mathlib.Omega.{arith}
-use Rattle.terms.specs.Terms.{numbers, span, declared, itemsGood, aritiesGood, refusal, head, argRefusal}
+use Rattle.terms.specs.Terms.{numbers, span, declared, itemsGood, aritiesGood, sigRefusal, Signed, refusal, head, argRefusal}
 use Rattle.laws.specs.Choice.{pick}
 use Rattle.laws.proofs.Lists.{tail-part}
 use mathlib.Core.Bool.{Bool, true, false}
 use lib.Dec.{ltb, leb, eqb}
-use borrow.Author.Tests.{le-leb, lt-leb, ltb-false, eqb-true, eqb-false, ne-eqb}
+use Rattle.terms.specs.declared.Checked as Checked
+use Rattle.terms.specs.declared.Checked.{Checked}
+use Rattle.terms.specs.Refusals.{checkedNumber}
+use borrow.Author.Tests.{leb-true, le-leb, lt-leb, ltb-false, eqb-true, eqb-false, ne-eqb}
 use lib.Seq.{drop-cons, drop-length}
 
 pub span-short : (sig t : List ℕ) (k : ℕ) → length t < 2 → span sig t k ≡ 2 * k
@@ -180,3 +183,29 @@ getD-numbers (h ∷ l ∷ r) (suc i) b =
     let e : 2 * suc i ≡ suc (suc (2 * i)) = omega arith in
     let f : suc (suc (2 * i)) + 1 ≡ suc (suc (2 * i + 1)) = omega arith in
     rw (e, f) (getD-numbers r i (omega arith))
+
+arities-each : (s : List ℕ) → aritiesGood s ≡ true → (f : ℕ) → getD s f 0 ≤ 8
+unfolding aritiesGood
+arities-each [] h f = omega arith
+arities-each (a ∷ s) h f = go (leb a 8) refl h (arities-each s) f
+  where
+    go : (b : Bool) → leb a 8 ≡ b → pick b (aritiesGood s) false ≡ true → (aritiesGood s ≡ true → (f : ℕ) → getD s f 0 ≤ 8) → (f : ℕ) → getD (a ∷ s) f 0 ≤ 8
+    go true e p ih zero = leb-true a 8 e
+    go true e p ih (suc f) = ih p f
+    go false e p ih f = absurd (let z : _≡_ {A = ℕ} 0 1 = cc in omega arith)
+
+-- a signature that is not refused
+pub signed : (sig : List ℕ) → sigRefusal sig ≡ 0 → Signed sig
+unfolding sigRefusal
+signed sig h =
+    let a = past (eqb (length sig) 0) 1 _ h in
+    let b = past (ltb 256 (length sig)) 1 _ (a .1) in
+    let d = taken (aritiesGood sig) 1 0 (b .1) in
+    record { short = ltb-false _ _ (b .0); eight = arities-each sig (d .0) }
+
+-- what a check that answers Good has shown
+pub checked-good : (sig t : List ℕ) (k : Checked) → checkedNumber k ≡ refusal sig t → k ≡ Checked.Good → Good sig t
+checked-good sig t k h e = good sig t (sym h ∙ ap checkedNumber e)
+
+pub checked-signed : (sig : List ℕ) (k : Checked) → checkedNumber k ≡ sigRefusal sig → k ≡ Checked.Good → Signed sig
+checked-signed sig k h e = signed sig (sym h ∙ ap checkedNumber e)

@@ -38,6 +38,11 @@ aritiesGood (a ∷ r) = pick (leb a 8) (aritiesGood r) false
 unfoldable pub sigRefusal : List ℕ → ℕ
 sigRefusal s = pick (eqb (length s) 0) 2 (pick (ltb 256 (length s)) 2 (pick (aritiesGood s) 0 2))
 
+-- what every walk needs of a signature: at most 256 symbols, arities of at most 8
+pub record Signed (sig : List ℕ) : Type 0 where
+  pub short : length sig ≤ 256
+  pub eight : (f : ℕ) → getD sig f 0 ≤ 8
+
 -- the number of the refusal of a term, 0 where it is taken
 unfoldable pub refusal : List ℕ → List ℕ → ℕ
 refusal sig t =

@@ -193,9 +193,12 @@ pub fn place_below(k: usize) -> u32
 
 // The number of the place of argument i, counted from 1, below key k.
 pub fn place_of(k: usize, i: u8) -> u32
-    requires { ⌜ (k ≤ 4096) × (1 ≤ i) ⌝ }
-    ensures { λ r. ⌜ r ≡ k * 8 + (i - 1) ⌝ }
+    requires { ⌜ k ≤ 4096 ⌝ }
+    ensures { λ r. ⌜ (r ≡ k * 8 + (i - 1)) × (r < 33024) ⌝ }
 {
+    if i == 0 {
+        return place_below(k);
+    }
     place_below(k) + narrow8(i) - 1
 }
 

@@ -1,0 +1,78 @@
+use Prim.Native.Nat.{ℕ, _≤_, _-_, _+_, _<_, _*_}
+use mathlib.Core.Path.{_≡_, refl, sym, ap, _∙_}
+use native.Mathlib.Omega.{arith}
+use borrow.Author.Needs.{needs}
+use borrow.Author.Tests.{not-true, not-false}
+use lib.ListN.{length, take, length-drop}
+use lib.Seq.{length-take-le}
+use Rattle.layout.proofs.Laws.{long, signature-good}
+use Rattle.terms.specs.Terms.{Signed}
+use Rattle.terms.proofs.Laws.{checked-good, checked-signed}
+use Rattle.store.proofs.Laws.{sized}
+use Rattle.store.proofs.drop_term.Statement.{statement}
+use Rattle.store.proofs.drop_term.Tie as tie
+
+signature-requires : tie.Need-signature-requires
+signature-requires c κs = search needs
+
+term-requires : tie.Need-term-requires
+term-requires c κs = search needs
+
+check-requires : tie.Need-check-requires
+check-requires c κs = search needs
+
+enum-told : tie.Need-enum-told
+enum-told c = search needs
+
+returns : tie.Need-returns
+returns c = search needs
+
+enum-told-2 : tie.Need-enum-told-2
+enum-told-2 c = search needs
+
+outline-of-requires : tie.Need-outline-of-requires
+outline-of-requires c κs = (rw ((c .before .before .before .before .signature) .ensures) (signature-good _), (c .before .before .before .term) .ensures .1)
+
+drop-keys-requires : tie.Need-drop-keys-requires
+drop-keys-requires c κs = search needs
+
+same-length : tie.Need-same-length
+same-length c = search needs
+
+same-length-2 : tie.Need-same-length-2
+same-length-2 c = search needs
+
+same-length-3 : tie.Need-same-length-3
+same-length-3 c = search needs
+
+same-length-4 : tie.Need-same-length-4
+same-length-4 c = search needs
+
+same-length-5 : tie.Need-same-length-5
+same-length-5 c = search needs
+
+same-length-6 : tie.Need-same-length-6
+same-length-6 c = search needs
+
+returns-2 : tie.Need-returns-2
+returns-2 c = search needs
+
+pub drop-term-spec : {M : Type 1} → statement M
+drop-term-spec =
+    tie.close
+    (tie.spec
+    signature-requires
+    term-requires
+    check-requires
+    enum-told
+    returns
+    enum-told-2
+    outline-of-requires
+    drop-keys-requires
+    same-length
+    same-length-2
+    same-length-3
+    same-length-4
+    same-length-5
+    same-length-6
+    returns-2)
