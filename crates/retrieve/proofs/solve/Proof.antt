@@ -1,0 +1,129 @@
+use Rattle.terms.specs.Terms.{Signed}
+use Prim.Native.Nat.{ℕ, _≤_, _-_, _+_, _<_}
+use mathlib.Core.Path.{_≡_, refl, sym, ap, _∙_}
+use native.Mathlib.Omega.{arith}
+use borrow.Author.Needs.{needs}
+use borrow.Author.Tests.{not-false}
+use Rattle.layout.proofs.Laws.{long, signature-good, in-use-small}
+use Rattle.terms.proofs.Laws.{checked-good}
+use Rattle.theory.specs.Checked.{fine-good}
+use Rattle.unify.specs.Checked.{asked-good}
+use Rattle.retrieve.proofs.solve.Statement.{statement}
+use Rattle.retrieve.proofs.solve.Tie as tie
+
+long-enough-requires : tie.Need-long-enough-requires
+long-enough-requires c κs = search needs
+
+returns : tie.Need-returns
+returns c = search needs
+
+in-use-requires : tie.Need-in-use-requires
+in-use-requires c κs = let L = long _ _ _ _ _ _ _ _ (sym ((c .before .long-enough) .ensures) ∙ not-false ((c .before .long-enough) .result) ((c .if1) .left)) in
+    L .used
+
+returns-2 : tie.Need-returns-2
+returns-2 c = search needs
+
+signature-requires : tie.Need-signature-requires
+signature-requires c κs = let L = long _ _ _ _ _ _ _ _ (sym ((c .before .before .before .long-enough) .ensures) ∙ not-false ((c .before .before .before .long-enough) .result) ((c .before .before .if1) .left)) in
+    L .bytes
+
+check-requires : tie.Need-check-requires
+check-requires c κs = search needs
+
+enum-known-checked : tie.Need-enum-known-checked
+enum-known-checked c = search needs
+
+returns-3 : tie.Need-returns-3
+returns-3 c = search needs
+
+enum-told : tie.Need-enum-told
+enum-told c = search needs
+
+term-requires : tie.Need-term-requires
+term-requires c κs = let L = long _ _ _ _ _ _ _ _ (sym ((c .before .before .before .before .before .before .before .long-enough) .ensures) ∙ not-false ((c .before .before .before .before .before .before .before .long-enough) .result) ((c .before .before .before .before .before .before .if1) .left)) in
+    (L .bytes, in-use-small _ _ (sym ((c .before .before .before .before .before .in-use) .ensures) ∙ not-false ((c .before .before .before .before .before .in-use) .result) ((c .before .before .before .before .if2) .left)))
+
+check-requires-2 : tie.Need-check-requires-2
+check-requires-2 c κs = search needs
+
+enum-told-2 : tie.Need-enum-told-2
+enum-told-2 c = search needs
+
+returns-4 : tie.Need-returns-4
+returns-4 c = search needs
+
+enum-told-3 : tie.Need-enum-told-3
+enum-told-3 c = search needs
+
+record-requires : tie.Need-record-requires
+record-requires c κs = let g : Signed ((c .before .before .before .before .before .before .before .before .signature) .result .now) = rw ((c .before .before .before .before .before .before .before .before .signature) .ensures) (signature-good _) in
+    asked-good _ _ _ g (checked-good _ _ _ ((c .before .before .before .check2) .ensures) ((c .before .enum-told3) .given .1)) (checked-good _ _ _ ((c .before .before .before .before .before .before .before .check) .ensures) ((c .before .before .before .before .before .enum-told) .given .1))
+
+enum-known-r : tie.Need-enum-known-r
+enum-known-r c = search needs
+
+enum-told-4 : tie.Need-enum-told-4
+enum-told-4 c = search needs
+
+enum-told-5 : tie.Need-enum-told-5
+enum-told-5 c = search needs
+
+enum-told-6 : tie.Need-enum-told-6
+enum-told-6 c = search needs
+
+same-length : tie.Need-same-length
+same-length c = search needs
+
+returns-5 : tie.Need-returns-5
+returns-5 c = search needs
+
+same-length-2 : tie.Need-same-length-2
+same-length-2 c = search needs
+
+returns-6 : tie.Need-returns-6
+returns-6 c = search needs
+
+same-length-3 : tie.Need-same-length-3
+same-length-3 c = search needs
+
+returns-7 : tie.Need-returns-7
+returns-7 c = search needs
+
+same-length-4 : tie.Need-same-length-4
+same-length-4 c = search needs
+
+returns-8 : tie.Need-returns-8
+returns-8 c = search needs
+
+pub solve-spec : {M : Type 1} → statement M
+solve-spec =
+    tie.close
+    (tie.spec
+    long-enough-requires
+    returns
+    in-use-requires
+    returns-2
+    signature-requires
+    check-requires
+    enum-known-checked
+    returns-3
+    enum-told
+    term-requires
+    check-requires-2
+    enum-told-2
+    returns-4
+    enum-told-3
+    record-requires
+    enum-known-r
+    enum-told-4
+    enum-told-5
+    enum-told-6
+    same-length
+    returns-5
+    same-length-2
+    returns-6
+    same-length-3
+    returns-7
+    same-length-4
+    returns-8)

@@ -1,0 +1,12 @@
+pub mod Flat
+pub mod Subst
+pub mod Unify
+pub mod Canon
+pub mod Cut
+pub mod Order
+pub mod Items
+pub mod Nodes
+pub mod Walk
+pub mod Relations
+pub mod Match
+pub mod Checked

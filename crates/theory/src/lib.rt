@@ -1,0 +1,1 @@
+// Terms, substitution, unification and matching as mathematics: all of it stands in specs/.

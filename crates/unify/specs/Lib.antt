@@ -1,0 +1,15 @@
+pub mod Prefix
+pub mod Goal
+pub mod Classes
+pub mod Masks
+pub mod Push
+pub mod Run
+pub mod Face
+pub mod Sums
+pub mod Bytes
+pub mod Values
+pub mod Record
+pub mod Fields
+pub mod Whole
+pub mod Checked
+pub mod Arms

@@ -1,0 +1,313 @@
+-- The record of a substitution, and what a call that writes it promises.
+use mathlib.Core.Path.{_≡_, refl, sym, ap, _∙_}
+use mathlib.Core.Logic.{inl, _≢_}
+use mathlib.Core.List.{List, [], _∷_, _++_}
+use Prim.Native.Nat.{ℕ, zero, suc, _+_, _-_, _*_, _≤_, _<_}
+use native.Mathlib.Decide.{ℕ-discrete}
+use native.Mathlib.Omega.{arith}
+use lib.ListN.{length, getD, length-append}
+use Rattle.theory.specs.Flat.{Item, sy, va}
+use Rattle.theory.specs.Subst.{vars, app, In, in-app}
+use Rattle.theory.specs.Unify.{one, one-same, one-other, Bind, _:=_, full, Good, Unbound, unbound, Has, not-both}
+use Rattle.theory.specs.Canon.{Least, Mgu, unique}
+use Rattle.theory.specs.Relations.{Unifies}
+use Rattle.theory.specs.Items.{arity}
+use Rattle.unify.specs.Run.{Given, Tab, term, Unified}
+use Rattle.unify.specs.Values.{value, value-full, Sizes}
+use Rattle.unify.specs.Record.{bytes, front}
+use Rattle.unify.specs.Fields.{field, fieldIf, part, fieldsFrom, recordBytes, length-part, part-none}
+use Rattle.unify.specs.declared.Recorded.{Recorded}
+use Rattle.unify.specs.declared.Recorded.the-variants.{Written, Nothing, Long, Room}
+
+-- what stands in a value has no binding
+unbound-in : (B : List Bind) → Good B → (y z : ℕ) → In z (full B y) → Unbound z B
+unbound-in [] g y z i = tt
+unbound-in ((x := u) ∷ B) g y z i = let r = in-app (one x (app (full B) u)) z (full B y) i in go (r .0) (r .1) (r .2) (ℕ-discrete x (r .0)) (unbound-in B (g .2))
+  where
+    is : (w : ℕ) → In z (vars w) → z ≡ w
+    is w (inl e) = e
+
+    go : (w : ℕ) → In w (full B y) → In z (one x (app (full B) u) w) → Dec (x ≡ w) → ((y z : ℕ) → In z (full B y) → Unbound z B) → (x ≢ z) × Unbound z B
+    go w j k (yes e) ih =
+        let k′ : In z (app (full B) u) = rw (one-same x (app (full B) u)) at (rw (← e) at k) in
+        let r = in-app (full B) z u k′ in
+        ((λ q. g .1 (rw q k′)), ih (r .0) z (r .2))
+    go w j k (no f) ih = let q = is w (rw (one-other x (app (full B) u) w f) at k) in ((λ p. f (p ∙ q)), ih y z (rw q j))
+
+-- a variable with a binding has a value that is not itself
+pub bound-other : (B : List Bind) → Good B → (y : ℕ) (u : List Item) → Has y u B → full B y ≡ vars y → ⊥
+bound-other B g y u h e = not-both y u B (unbound-in B g y y (rw e (inl refl))) h
+
+-- the field of y, where its value l is not y itself
+fieldOr : {A : Type 0} → Dec A → List ℕ → List ℕ
+fieldOr (yes a) f = []
+fieldOr (no n) f = f
+
+pub fieldOf : ℕ → List Item → List ℕ
+fieldOf y [] = field y (bytes [])
+fieldOf y (sy f ∷ l) = field y (bytes (sy f ∷ l))
+fieldOf y (va x ∷ []) = fieldOr (ℕ-discrete x y) (field y (bytes (va x ∷ [])))
+fieldOf y (va x ∷ i ∷ l) = field y (bytes (va x ∷ i ∷ l))
+
+field-own : (y : ℕ) → fieldOf y (vars y) ≡ []
+unfolding fieldOf fieldOr
+field-own y = go (ℕ-discrete y y)
+  where
+    go : (d : Dec (y ≡ y)) → fieldOr d (field y (bytes (vars y))) ≡ []
+    go (yes e) = refl
+    go (no n) = absurd (n refl)
+
+field-other : (y : ℕ) (l : List Item) → (l ≡ vars y → ⊥) → fieldOf y l ≡ field y (bytes l)
+unfolding fieldOf fieldOr
+field-other y [] n = refl
+field-other y (sy f ∷ l) n = refl
+field-other y (va x ∷ []) n = go (ℕ-discrete x y)
+  where
+    go : (d : Dec (x ≡ y)) → fieldOr d (field y (bytes (vars x))) ≡ field y (bytes (vars x))
+    go (yes e) = absurd (n (ap vars e))
+    go (no f) = refl
+field-other y (va x ∷ i ∷ l) n = refl
+
+-- the record of θ: the variables from y on, k of them
+pub fieldsOf : (ℕ → List Item) → ℕ → ℕ → List ℕ
+fieldsOf θ zero y = []
+fieldsOf θ (suc k) y = fieldOf y (θ y) ++ fieldsOf θ k (y + 1)
+
+-- the record: 64 written variables
+abbrev pub recordOf : (ℕ → List Item) → List ℕ
+recordOf θ = fieldsOf θ 64 0
+
+module _ (sig pool tab : List ℕ) (G : Given sig pool) (B : List Bind) (g : Good B) (t : Tab sig pool tab B) (few : length B ≤ 64) where
+  part-field : (y : ℕ) → y < 64 → part sig pool tab y ≡ fieldOf y (full B y)
+  unfolding part
+  part-field y b = go (getD tab y 0) refl
+    where
+      v : value sig pool tab 64 y ≡ full B y
+      v = value-full sig pool tab G B g t few y b
+
+      go : (e : ℕ) → getD tab y 0 ≡ e → fieldIf y e (bytes (value sig pool tab 64 y)) ≡ fieldOf y (full B y)
+      go zero e = sym (ap (fieldOf y) (unbound y B (rw e at (t y b))) ∙ field-own y)
+      go (suc p) e = ap (λ l. field y (bytes l)) v ∙ sym (field-other y (full B y) (bound-other B g y (term sig pool p) (rw e at (t y b))))
+
+  from : (k y : ℕ) → y + k ≤ 64 → fieldsFrom sig pool tab k y ≡ fieldsOf (full B) k y
+  unfolding fieldsFrom fieldsOf
+  from zero y b = refl
+  from (suc k) y b = rw (part-field y (omega arith), from k (y + 1) (omega arith))
+
+  pub record-full : recordBytes sig pool tab ≡ recordOf (full B)
+  record-full = from 64 0 (omega arith)
+
+-- the record's length, from the sizes
+abbrev pub bytesIf : ℕ → ℕ → ℕ
+bytesIf zero s = 0
+bytesIf (suc p) s = 5 + 2 * s
+
+unfoldable pub totalFrom : List ℕ → List ℕ → ℕ → ℕ → ℕ
+totalFrom tab sz zero y = 0
+totalFrom tab sz (suc k) y = bytesIf (getD tab y 0) (getD sz y 0) + totalFrom tab sz k (y + 1)
+
+pub total-turn : (tab sz : List ℕ) (k y : ℕ) → k ≢ 0 → totalFrom tab sz k y ≡ bytesIf (getD tab y 0) (getD sz y 0) + totalFrom tab sz (k - 1) (y + 1)
+unfolding totalFrom
+total-turn tab sz zero y n = absurd (n refl)
+total-turn tab sz (suc k) y n = let e : suc k - 1 ≡ k = omega arith in rw e
+
+pub total-end : (tab sz : List ℕ) (k y : ℕ) → k ≡ 0 → totalFrom tab sz k y ≡ 0
+unfolding totalFrom
+total-end tab sz k y e = rw e
+
+module _ (sig pool tab sz : List ℕ) (s : Sizes sig pool tab 64 sz) (short : (y : ℕ) → y < 64 → getD sz y 0 ≤ 2048) where
+  pub value-short : (y : ℕ) → y < 64 → length (value sig pool tab 64 y) ≡ getD sz y 0
+  value-short y b = omega (arith, s y b, short y b)
+
+  total-part : (y : ℕ) → y < 64 → bytesIf (getD tab y 0) (getD sz y 0) ≡ length (part sig pool tab y)
+  total-part y b = go (getD tab y 0) refl
+    where
+      go : (e : ℕ) → getD tab y 0 ≡ e → bytesIf e (getD sz y 0) ≡ length (part sig pool tab y)
+      go zero e = rw (part-none sig pool tab y e)
+      go (suc p) e = omega (arith, length-part sig pool tab y (λ z. omega (arith, e, z)), value-short y b)
+
+  total-from : (k y : ℕ) → y + k ≤ 64 → totalFrom tab sz k y ≡ length (fieldsFrom sig pool tab k y)
+  unfolding totalFrom fieldsFrom
+  total-from zero y b = refl
+  total-from (suc k) y b = omega (arith, total-part y (omega arith), total-from k (y + 1) (omega arith), length-append (part sig pool tab y) (fieldsFrom sig pool tab k (y + 1)))
+
+  pub total-record : totalFrom tab sz 64 0 ≡ length (recordBytes sig pool tab)
+  total-record = total-from 64 0 (omega arith)
+
+-- the number of fields: 0 or 1 for an entry of the table, and for the bytes of a variable
+abbrev pub some : ℕ → ℕ
+some zero = 0
+some (suc p) = 1
+
+pub some-one : (e : ℕ) → e ≢ 0 → 1 ≡ some e
+some-one zero n = absurd (n refl)
+some-one (suc e) n = refl
+
+unfoldable pub countFrom : List ℕ → ℕ → ℕ → ℕ
+countFrom tab zero y = 0
+countFrom tab (suc k) y = some (getD tab y 0) + countFrom tab k (y + 1)
+
+pub count-turn : (tab : List ℕ) (k y : ℕ) → k ≢ 0 → countFrom tab k y ≡ some (getD tab y 0) + countFrom tab (k - 1) (y + 1)
+unfolding countFrom
+count-turn tab zero y n = absurd (n refl)
+count-turn tab (suc k) y n = let e : suc k - 1 ≡ k = omega arith in rw e
+
+pub count-end : (tab : List ℕ) (k y : ℕ) → k ≡ 0 → countFrom tab k y ≡ 0
+unfolding countFrom
+count-end tab k y e = rw e
+
+-- the fields of θ that are there, of k variables from y on
+unfoldable pub countsOf : (ℕ → List Item) → ℕ → ℕ → ℕ
+countsOf θ zero y = 0
+countsOf θ (suc k) y = some (length (fieldOf y (θ y))) + countsOf θ k (y + 1)
+
+-- 'solve answers the number of fields'
+abbrev pub countOf : (ℕ → List Item) → ℕ
+countOf θ = countsOf θ 64 0
+
+module _ (sig pool tab : List ℕ) (G : Given sig pool) (B : List Bind) (g : Good B) (t : Tab sig pool tab B) (few : length B ≤ 64) where
+  count-part : (y : ℕ) → some (getD tab y 0) ≡ some (length (part sig pool tab y))
+  unfolding part field
+  count-part y = go (getD tab y 0)
+    where
+      go : (e : ℕ) → some e ≡ some (length (fieldIf y e (bytes (value sig pool tab 64 y))))
+      go zero = refl
+      go (suc p) = refl
+
+  counts : (k y : ℕ) → y + k ≤ 64 → countFrom tab k y ≡ countsOf (full B) k y
+  unfolding countFrom countsOf
+  counts zero y b = refl
+  counts (suc k) y b = rw (count-part y, part-field sig pool tab G B g t few y (omega arith), counts k (y + 1) (omega arith))
+
+  pub count-full : countFrom tab 64 0 ≡ countOf (full B)
+  count-full = counts 64 0 (omega arith)
+
+-- the most general unifier that takes the smallest variables
+pub record Unifier (sig : List ℕ) (a b : List Item) (θ : ℕ → List Item) : Type 0 where
+  pub mgu : Mgu (arity sig) a b θ
+  pub least : Least θ
+
+-- no value has over 2,048 items
+abbrev pub Short : (ℕ → List Item) → Type 0
+Short θ = (y : ℕ) → y < 64 → length (θ y) ≤ 2048
+
+-- the record of a unifier is written: m fields, n bytes
+pub record Writes (sig : List ℕ) (a b : List Item) (out₀ out : List ℕ) (m n : ℕ) : Type 0 where
+  pub by : ℕ → List Item
+  pub unifier : Unifier sig a b by
+  pub fields : m ≡ countOf by
+  pub bytes : n ≡ length (recordOf by)
+  pub fits : length (recordOf by) ≤ length out₀
+  pub short : Short by
+  pub written : out ≡ front (recordOf by) out₀
+
+-- refusal 14: some value has over 2,048 items
+pub record TooLong (sig : List ℕ) (a b : List Item) : Type 0 where
+  pub by : ℕ → List Item
+  pub unifier : Unifier sig a b by
+  pub long : (y : ℕ) × (y < 64) × (2048 < length (by y))
+
+-- refusal 15: the record is longer than the buffer
+pub record NoRoom (sig : List ℕ) (a b : List Item) (out₀ : List ℕ) : Type 0 where
+  pub by : ℕ → List Item
+  pub unifier : Unifier sig a b by
+  pub short : Short by
+  pub room : length out₀ < length (recordOf by)
+
+-- what a call promises of the terms a and b: out₀ before, out after
+abbrev pub Promise : List ℕ → List Item → List Item → List ℕ → List ℕ → Recorded → Type 0
+Promise sig a b out₀ out (Written m n) = Writes sig a b out₀ out m n
+Promise sig a b out₀ out Nothing = (Unifies (arity sig) a b → ⊥) × (out ≡ out₀)
+Promise sig a b out₀ out Long = TooLong sig a b × (out ≡ out₀)
+Promise sig a b out₀ out Room = NoRoom sig a b out₀ × (out ≡ out₀)
+
+module _ (sig pool : List ℕ) (root : ℕ) (tab : List ℕ) (G : Given sig pool) (u : Unified sig pool root tab) where
+  unifier : Unifier sig (term sig pool 0) (term sig pool root) (full (u .binds))
+  unifier = record { mgu = u .mgu; least = u .least }
+
+  val-full : (y : ℕ) → y < 64 → value sig pool tab 64 y ≡ full (u .binds) y
+  val-full = value-full sig pool tab G (u .binds) (u .good) (u .table) (u .few)
+
+  rec : recordBytes sig pool tab ≡ recordOf (full (u .binds))
+  rec = record-full sig pool tab G (u .binds) (u .good) (u .table) (u .few)
+
+  pub promise-long : (sz : List ℕ) → Sizes sig pool tab 64 sz → (y : ℕ) × (y < 64) × (2048 < getD sz y 0) → (out : List ℕ) → Promise sig (term sig pool 0) (term sig pool root) out out Long
+  promise-long sz s y out = (record { by = full (u .binds); unifier = unifier; long = (y .0, y .1, omega (arith, s (y .0) (y .1), y .2, ap length (val-full (y .0) (y .1)))) }, refl)
+
+  module _ (sz : List ℕ) (s : Sizes sig pool tab 64 sz) (short : (y : ℕ) → y < 64 → getD sz y 0 ≤ 2048) where
+    all-short : Short (full (u .binds))
+    all-short y b = omega (arith, value-short sig pool tab sz s short y b, short y b, ap length (val-full y b))
+
+    pub promise-room : (out : List ℕ) → length out < totalFrom tab sz 64 0 → Promise sig (term sig pool 0) (term sig pool root) out out Room
+    promise-room out b = (record { by = full (u .binds); unifier = unifier; short = all-short; room = omega (arith, total-record sig pool tab sz s short, ap length rec) }, refl)
+
+    pub promise-written : (out₀ out : List ℕ) (m n : ℕ) → totalFrom tab sz 64 0 ≤ length out₀ → m ≡ countFrom tab 64 0 → n ≡ length (recordBytes sig pool tab) → out ≡ front (recordBytes sig pool tab) out₀
+        → Promise sig (term sig pool 0) (term sig pool root) out₀ out (Written m n)
+    promise-written out₀ out m n b d e f = record {
+      by = full (u .binds);
+      unifier = unifier;
+      fields = d ∙ count-full sig pool tab G (u .binds) (u .good) (u .table) (u .few);
+      bytes = e ∙ ap length rec;
+      fits = omega (arith, total-record sig pool tab sz s short, ap length rec);
+      short = all-short;
+      written = f ∙ ap (λ (r : List ℕ). front r out₀) rec;
+    }
+
+pub bytes-none : (e n : ℕ) → e ≡ 0 → 0 ≡ bytesIf e n
+bytes-none e n z = rw z
+
+pub bytes-some : (e n m : ℕ) → e ≢ 0 → m ≡ n → 5 + 2 * m ≡ bytesIf e n
+bytes-some zero n m z h = absurd (z refl)
+bytes-some (suc e) n m z h = rw h
+
+-- any two answers that the promise permits coincide
+fields-same : (θ η : ℕ → List Item) → ((x : ℕ) → θ x ≡ η x) → (k y : ℕ) → fieldsOf θ k y ≡ fieldsOf η k y
+unfolding fieldsOf
+fields-same θ η h zero y = refl
+fields-same θ η h (suc k) y = rw (h y, fields-same θ η h k (y + 1))
+
+counts-same : (θ η : ℕ → List Item) → ((x : ℕ) → θ x ≡ η x) → (k y : ℕ) → countsOf θ k y ≡ countsOf η k y
+unfolding countsOf
+counts-same θ η h zero y = refl
+counts-same θ η h (suc k) y = rw (h y, counts-same θ η h k (y + 1))
+
+module _ (sig : List ℕ) (a b : List Item) (out₀ : List ℕ) where
+  one-unifier : (θ η : ℕ → List Item) → Unifier sig a b θ → Unifier sig a b η → (x : ℕ) → θ x ≡ η x
+  one-unifier θ η u v = unique (arity sig) a b θ η (u .mgu) (v .mgu) (u .least) (v .least)
+
+  one-record : (θ η : ℕ → List Item) → Unifier sig a b θ → Unifier sig a b η → recordOf θ ≡ recordOf η
+  one-record θ η u v = fields-same θ η (one-unifier θ η u v) 64 0
+
+  some-unifier : (θ : ℕ → List Item) → Unifier sig a b θ → Unifies (arity sig) a b
+  some-unifier θ u = record { by = θ; sub = u .mgu .sub; same = u .mgu .unifies }
+
+  abbrev pub Coincide : List ℕ → List ℕ → Recorded → Recorded → Type 0
+  Coincide out out′ r r′ = (r ≡ r′) × (out ≡ out′)
+
+  not-short : (θ η : ℕ → List Item) → Unifier sig a b θ → Unifier sig a b η → Short θ → (y : ℕ) × (y < 64) × (2048 < length (η y)) → ⊥
+  not-short θ η u v s y = omega (arith, s (y .0) (y .1), y .2, ap length (one-unifier θ η u v (y .0)))
+
+  not-room : (θ η : ℕ → List Item) → Unifier sig a b θ → Unifier sig a b η → length (recordOf θ) ≤ length out₀ → length out₀ < length (recordOf η) → ⊥
+  not-room θ η u v s l = omega (arith, ap length (one-record θ η u v))
+
+  pub coincide : (out out′ : List ℕ) (r r′ : Recorded) → Promise sig a b out₀ out r → Promise sig a b out₀ out′ r′ → Coincide out out′ r r′
+  coincide out out′ (Written m n) (Written m′ n′) p q =
+      let e = one-record (p .by) (q .by) (p .unifier) (q .unifier) in
+      let f : m ≡ m′ = p .fields ∙ counts-same (p .by) (q .by) (one-unifier (p .by) (q .by) (p .unifier) (q .unifier)) 64 0 ∙ sym (q .fields) in
+      let k : n ≡ n′ = p .bytes ∙ ap length e ∙ sym (q .bytes) in
+      (rw (f, k) refl, p .written ∙ ap (λ (x : List ℕ). front x out₀) e ∙ sym (q .written))
+  coincide out out′ (Written m n) Nothing p q = absurd (q .0 (some-unifier (p .by) (p .unifier)))
+  coincide out out′ (Written m n) Long p q = absurd (not-short (p .by) (q .0 .by) (p .unifier) (q .0 .unifier) (p .short) (q .0 .long))
+  coincide out out′ (Written m n) Room p q = absurd (not-room (p .by) (q .0 .by) (p .unifier) (q .0 .unifier) (p .fits) (q .0 .room))
+  coincide out out′ Nothing (Written m n) p q = absurd (p .0 (some-unifier (q .by) (q .unifier)))
+  coincide out out′ Nothing Nothing p q = (refl, p .1 ∙ sym (q .1))
+  coincide out out′ Nothing Long p q = absurd (p .0 (some-unifier (q .0 .by) (q .0 .unifier)))
+  coincide out out′ Nothing Room p q = absurd (p .0 (some-unifier (q .0 .by) (q .0 .unifier)))
+  coincide out out′ Long (Written m n) p q = absurd (not-short (q .by) (p .0 .by) (q .unifier) (p .0 .unifier) (q .short) (p .0 .long))
+  coincide out out′ Long Nothing p q = absurd (q .0 (some-unifier (p .0 .by) (p .0 .unifier)))
+  coincide out out′ Long Long p q = (refl, p .1 ∙ sym (q .1))
+  coincide out out′ Long Room p q = absurd (not-short (q .0 .by) (p .0 .by) (q .0 .unifier) (p .0 .unifier) (q .0 .short) (p .0 .long))
+  coincide out out′ Room (Written m n) p q = absurd (not-room (q .by) (p .0 .by) (q .unifier) (p .0 .unifier) (q .fits) (p .0 .room))
+  coincide out out′ Room Nothing p q = absurd (q .0 (some-unifier (p .0 .by) (p .0 .unifier)))
+  coincide out out′ Room Long p q = absurd (not-short (p .0 .by) (q .0 .by) (p .0 .unifier) (q .0 .unifier) (p .0 .short) (q .0 .long))
+  coincide out out′ Room Room p q = (refl, p .1 ∙ sym (q .1))

@@ -1,0 +1,90 @@
+// The three kinds of variable (document 01, 'Term bytes'). A stored number and a question number meet only as written.
+ghost use mathlib.Core.Path.{_≡_};
+ghost use Prim.Native.Nat.{_+_, _≤_, _<_};
+ghost use Rattle.variables.specs.Sides.{Stands};
+
+// A variable of a stored term, 0 to 31.
+pub struct StoredVariable(pub u8);
+
+// A variable of a question, 0 to 31.
+pub struct QuestionVariable(pub u8);
+
+// A variable where both sides appear in one written term, 0 to 63.
+pub struct WrittenVariable(pub u8);
+
+// Whose variables a term has.
+pub enum Bank {
+    Stored,
+    Question,
+}
+
+// The variable that a written one stands for.
+pub enum Side {
+    Stored(StoredVariable),
+    Question(QuestionVariable),
+}
+
+impl StoredVariable {
+    // The variable of an item of a stored term.
+    pub fn of_item(c: u16) -> Self
+        requires { ⌜ (32768 ≤ c) × (c < 32800) ⌝ }
+        ensures { λ r. ⌜ (r .0 < 32) × (32768 + r .0 ≡ c) ⌝ }
+    {
+        Self((c - 32768) as u8)
+    }
+
+    // As written: the same number.
+    pub fn written(self) -> WrittenVariable
+        requires { ⌜ self .0 < 32 ⌝ }
+        ensures { λ r. ⌜ r .0 ≡ self .0 ⌝ }
+    {
+        WrittenVariable(self.0)
+    }
+}
+
+impl QuestionVariable {
+    // The variable of an item of a question.
+    pub fn of_item(c: u16) -> Self
+        requires { ⌜ (32768 ≤ c) × (c < 32800) ⌝ }
+        ensures { λ r. ⌜ (r .0 < 32) × (32768 + r .0 ≡ c) ⌝ }
+    {
+        Self((c - 32768) as u8)
+    }
+
+    // As written: apart from every stored variable.
+    pub fn written(self) -> WrittenVariable
+        requires { ⌜ self .0 < 32 ⌝ }
+        ensures { λ r. ⌜ r .0 ≡ 32 + self .0 ⌝ }
+    {
+        WrittenVariable(32 + self.0)
+    }
+}
+
+impl WrittenVariable {
+    // The variable of an item of a written term.
+    pub fn of_item(c: u16) -> Self
+        requires { ⌜ (32768 ≤ c) × (c < 32832) ⌝ }
+        ensures { λ r. ⌜ (r .0 < 64) × (32768 + r .0 ≡ c) ⌝ }
+    {
+        Self((c - 32768) as u8)
+    }
+
+    // Its item.
+    pub fn item(self) -> u16
+        ensures { λ r. ⌜ r ≡ 32768 + self .0 ⌝ }
+    {
+        32768 + (self.0 as u16)
+    }
+
+    // Back to the side that it comes from.
+    pub fn side(self) -> Side
+        requires { ⌜ self .0 < 64 ⌝ }
+        ensures { λ r. ⌜ Stands (self .0) r ⌝ }
+    {
+        let w = self.0;
+        if w < 32 {
+            return Side::Stored(StoredVariable(w));
+        }
+        Side::Question(QuestionVariable(w - 32))
+    }
+}
