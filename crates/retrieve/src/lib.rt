@@ -4,7 +4,6 @@ use slots::SlotSet;
 use terms::Checked;
 use terms::Refusal;
 use unify::Recorded;
-
 ghost use Prim.Native.Nat.{_≤_, _<_};
 ghost use lib.ListN.{length};
 ghost use Rattle.terms.specs.Terms.{Signed};

@@ -74,3 +74,7 @@ argBytes sig t i =
     pick (eqb (argRefusal sig t i) 0)
     (take (span sig (afterArgs sig t (i - 1)) 1) (afterArgs sig t (i - 1)))
     []
+
+-- where argument i starts; 0 where it is refused
+unfoldable pub argStart : List ℕ → List ℕ → ℕ → ℕ
+argStart sig t i = pick (eqb (argRefusal sig t i) 0) (2 + span sig (drop 2 t) (i - 1)) 0

@@ -4,7 +4,7 @@ ghost use mathlib.Core.Path.{_≡_};
 ghost use Prim.Native.Nat.{_+_, _-_, _*_, _≤_, _<_, min};
 ghost use lib.ListN.{length, take, drop, getD};
 ghost use Rattle.terms.specs.Refusals.{numberOf, checkedNumber};
-ghost use Rattle.terms.specs.Terms.{span, declared as isDeclared, itemsGood, aritiesGood, sigRefusal, refusal, head, argRefusal, argBytes};
+ghost use Rattle.terms.specs.Terms.{span, declared as isDeclared, itemsGood, aritiesGood, sigRefusal, refusal, head, argRefusal, argBytes, argStart};
 
 // Why a call is refused, in the order of document 01's numbers.
 pub enum Refusal {
@@ -226,6 +226,16 @@ pub fn argument_refusal(sig: &[u8], t: &[u8], i: usize) -> u8
     ensures { λ r. ⌜ r ≡ argRefusal (now (sig .entry)) (now (t .entry)) i ⌝ }
 {
     check_argument(sig, t, i).number()
+}
+
+// Where argument i starts within `t`; 0 where check_argument refuses.
+pub fn argument_start(sig: &[u8], t: &[u8], i: usize) -> usize
+    ensures { λ r. ⌜ r ≡ argStart (now (sig .entry)) (now (t .entry)) i ⌝ }
+{
+    if argument_refusal(sig, t, i) != 0 {
+        return 0;
+    }
+    arg_at(sig, t, i - 1)
 }
 
 // Argument i as the part of `t` where it stands; the empty part where check_argument refuses.

@@ -8,7 +8,6 @@ use borrow.Author.Needs.{needs}
 use lib.ListN.{length, drop, length-drop}
 use Rattle.terms.specs.Terms.{span}
 use Rattle.terms.proofs.Laws.{turn-more, turn-short, span-zero}
-use Rattle.laws.proofs.Lists.{tail-part}
 use Rattle.terms.proofs.arg_at.Statement.{statement}
 use Rattle.terms.proofs.arg_at.Tie as tie
 

@@ -1,0 +1,71 @@
+// The number of each answer, 0 or the refusal's; what was answered goes through `&mut`, only where the number is 0.
+use retrieve::Retrieved;
+use retrieve::Solved;
+use store::Deleted;
+use store::Inserted;
+use store::Listed;
+use store::Opened;
+ghost use mathlib.Core.Path.{_≡_};
+
+// A refusal's number as C has it.
+pub fn code(number: u8) -> u32
+    ensures { λ r. ⌜ r ≡ number ⌝ }
+{
+    number as u32
+}
+
+pub fn opened(answer: Opened) -> u32 {
+    match answer {
+        Opened::Open => 0,
+        Opened::Refused(why) => code(why.number()),
+    }
+}
+
+pub fn inserted(answer: Inserted, slot: &mut usize) -> u32 {
+    match answer {
+        Inserted::Slot(at) => {
+            *slot = at;
+            0
+        }
+        Inserted::Refused(why) => code(why.number()),
+    }
+}
+
+pub fn deleted(answer: Deleted) -> u32 {
+    match answer {
+        Deleted::Slot(_) => 0,
+        Deleted::Refused(why) => code(why.number()),
+    }
+}
+
+pub fn listed(answer: Listed, count: &mut usize) -> u32 {
+    match answer {
+        Listed::Slots(n) => {
+            *count = n;
+            0
+        }
+        Listed::Refused(why) => code(why.number()),
+    }
+}
+
+pub fn retrieved(answer: Retrieved, candidates: &mut usize, answers: &mut usize) -> u32 {
+    match answer {
+        Retrieved::Listed(c, a) => {
+            *candidates = c;
+            *answers = a;
+            0
+        }
+        Retrieved::Refused(why) => code(why.number()),
+    }
+}
+
+pub fn solved(answer: Solved, fields: &mut usize, written: &mut usize) -> u32 {
+    match answer {
+        Solved::Record(n, bytes) => {
+            *fields = n;
+            *written = bytes;
+            0
+        }
+        Solved::Refused(why) => code(why.number()),
+    }
+}

@@ -1,0 +1,39 @@
+use lib.Seq.{length-take-le}
+use native.Mathlib.Omega.{arith}
+use mathlib.Core.Path.{sym}
+use borrow.Author.Needs.{needs}
+use Rattle.replay.proofs.say.say_found.Statement.{statement}
+use Rattle.replay.proofs.say.say_found.Tie as tie
+
+least-requires : tie.Need-least-requires
+least-requires c κs = search needs
+
+mul-n : tie.Need-mul-n
+mul-n c = search needs
+
+slice-aggregate-found-line : tie.Need-slice-aggregate-found-line
+slice-aggregate-found-line c = search needs
+
+slice-aggregate-found-line-2 : tie.Need-slice-aggregate-found-line-2
+slice-aggregate-found-line-2 c = sym (length-take-le _ _ (omega arith))
+
+found-line-requires : tie.Need-found-line-requires
+found-line-requires c κs = search needs
+
+same-length : tie.Need-same-length
+same-length c = search needs
+
+returns : tie.Need-returns
+returns c = search needs
+
+pub say-found-spec : {M : Type 1} → statement M
+say-found-spec =
+    tie.close
+    (tie.spec
+    least-requires
+    mul-n
+    slice-aggregate-found-line
+    slice-aggregate-found-line-2
+    found-line-requires
+    same-length
+    returns)

@@ -1,0 +1,35 @@
+use lib.Seq.{length-take-le}
+use native.Mathlib.Omega.{arith}
+use mathlib.Core.Path.{sym}
+use borrow.Author.Needs.{needs}
+use Rattle.replay.proofs.say.say_record.Statement.{statement}
+use Rattle.replay.proofs.say.say_record.Tie as tie
+
+least-requires : tie.Need-least-requires
+least-requires c κs = search needs
+
+slice-aggregate-solved-line : tie.Need-slice-aggregate-solved-line
+slice-aggregate-solved-line c = search needs
+
+slice-aggregate-solved-line-2 : tie.Need-slice-aggregate-solved-line-2
+slice-aggregate-solved-line-2 c = sym (length-take-le _ _ (omega arith))
+
+solved-line-requires : tie.Need-solved-line-requires
+solved-line-requires c κs = search needs
+
+same-length : tie.Need-same-length
+same-length c = search needs
+
+returns : tie.Need-returns
+returns c = search needs
+
+pub say-record-spec : {M : Type 1} → statement M
+say-record-spec =
+    tie.close
+    (tie.spec
+    least-requires
+    slice-aggregate-solved-line
+    slice-aggregate-solved-line-2
+    solved-line-requires
+    same-length
+    returns)
