@@ -1,0 +1,51 @@
+use lib.Seq.{length-take-le}
+use native.Mathlib.Omega.{arith}
+use mathlib.Core.Path.{sym}
+use borrow.Author.Needs.{needs}
+use Rattle.cases.proofs.say.say_found.Statement.{statement}
+use Rattle.cases.proofs.say.say_found.Tie as tie
+
+least-requires : tie.Need-least-requires
+least-requires c κs = search needs
+
+mul-n : tie.Need-mul-n
+mul-n c = search needs
+
+slice-aggregate-short-line : tie.Need-slice-aggregate-short-line
+slice-aggregate-short-line c = sym (length-take-le _ _ (omega arith))
+
+short-line-requires : tie.Need-short-line-requires
+short-line-requires c κs = search needs
+
+same-length : tie.Need-same-length
+same-length c = search needs
+
+returns : tie.Need-returns
+returns c = search needs
+
+slice-aggregate-found-line : tie.Need-slice-aggregate-found-line
+slice-aggregate-found-line c = sym (length-take-le _ _ (omega arith))
+
+found-line-requires : tie.Need-found-line-requires
+found-line-requires c κs = search needs
+
+same-length-2 : tie.Need-same-length-2
+same-length-2 c = search needs
+
+returns-2 : tie.Need-returns-2
+returns-2 c = search needs
+
+pub say-found-spec : {M : Type 1} → statement M
+say-found-spec =
+    tie.close
+    (tie.spec
+    least-requires
+    mul-n
+    slice-aggregate-short-line
+    short-line-requires
+    same-length
+    returns
+    slice-aggregate-found-line
+    found-line-requires
+    same-length-2
+    returns-2)
