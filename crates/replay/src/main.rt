@@ -7,6 +7,8 @@ use libc::STDOUT_FILENO;
 use order::Order;
 use order::Task;
 use order::task_at;
+use retrieve::retrieve as list;
+use retrieve::solve;
 use say::Answer;
 use say::Said;
 use say::say;
@@ -29,56 +31,22 @@ fn answer(
 ) -> Answer {
     match order {
         Order::Open => Answer::Opened(store::open(bytes, used, label, link, s0, s1, s2, s3, term)),
-        Order::Insert => Answer::Inserted(store::insert(
-            bytes,
-            used,
-            label,
-            link,
-            s0,
-            s1,
-            s2,
-            s3,
-            term,
-        )),
-        Order::Delete(slot) => Answer::Deleted(store::delete(
-            bytes,
-            used,
-            label,
-            link,
-            s0,
-            s1,
-            s2,
-            s3,
-            slot,
-        )),
-        Order::Retrieve(relation) => {
-            Answer::Retrieved(retrieve::retrieve(
-                bytes,
-                used,
-                label,
-                link,
-                s0,
-                s1,
-                s2,
-                s3,
-                relation,
-                term,
-                out,
-            ))
+        Order::Insert => {
+            let got = store::insert(bytes, used, label, link, s0, s1, s2, s3, term);
+            Answer::Inserted(got)
         }
-        Order::Solve(slot) => Answer::Solved(retrieve::solve(
-            bytes,
-            used,
-            label,
-            link,
-            s0,
-            s1,
-            s2,
-            s3,
-            slot,
-            term,
-            out,
-        )),
+        Order::Delete(slot) => {
+            let got = store::delete(bytes, used, label, link, s0, s1, s2, s3, slot);
+            Answer::Deleted(got)
+        }
+        Order::Retrieve(which) => {
+            let got = list(bytes, used, label, link, s0, s1, s2, s3, which, term, out);
+            Answer::Retrieved(got)
+        }
+        Order::Solve(slot) => {
+            let got = solve(bytes, used, label, link, s0, s1, s2, s3, slot, term, out);
+            Answer::Solved(got)
+        }
         Order::Nothing => Answer::Log,
     }
 }

@@ -3,6 +3,7 @@ use layout::long_enough;
 use slots::SlotSet;
 use terms::Checked;
 use terms::Refusal;
+use terms::is_term;
 use unify::Recorded;
 ghost use Prim.Native.Nat.{_≤_, _<_};
 ghost use lib.ListN.{length};
@@ -26,8 +27,7 @@ fn stands(relation: usize, sig: &[u8], t: &[u8], q: &[u8]) -> bool
     if relation == 0 {
         return matching::equal(t, q);
     }
-    let checked = terms::check(sig, t);
-    if let Checked::Refused(_) = checked {
+    if !is_term(sig, t) {
         return false;
     }
     if relation == 1 {
@@ -119,8 +119,7 @@ pub fn solve(
         return Solved::Refused(why);
     }
     let t = layout::term(bytes, slot);
-    let stored = terms::check(sig, t);
-    if let Checked::Refused(_) = stored {
+    if !is_term(sig, t) {
         return Solved::Refused(Refusal::Nothing);
     }
     let r = unify::record(sig, t, q, out);

@@ -214,8 +214,7 @@ fn drop_term(
 {
     let sig = layout::signature(bytes);
     let t = layout::term(bytes, slot);
-    let checked = terms::check(sig, t);
-    if let Checked::Refused(_) = checked {
+    if !terms::is_term(sig, t) {
         return;
     }
     let o = outline_of(sig, t);

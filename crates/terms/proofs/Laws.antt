@@ -14,8 +14,9 @@ use lib.Dec.{ltb, leb, eqb}
 use Rattle.terms.specs.declared.Checked as Checked
 use Rattle.terms.specs.declared.Checked.{Checked}
 use Rattle.terms.specs.Refusals.{checkedNumber}
-use borrow.Author.Tests.{leb-true, le-leb, lt-leb, ltb-false, eqb-true, eqb-false, ne-eqb}
-use lib.Seq.{drop-cons, drop-length}
+use borrow.Author.Tests.{leb-true, le-leb, lt-leb, ltb-false, eqb-true, eqb-false, eq-eqb, ne-eqb, le-ltb}
+use lib.Seq.{drop-cons, drop-length, getD-drop}
+use native.Mathlib.Decide.{ℕ-discrete}
 
 pub span-short : (sig t : List ℕ) (k : ℕ) → length t < 2 → span sig t k ≡ 2 * k
 unfolding span
@@ -29,6 +30,12 @@ unfolding span
 span-head sig [] k h = absurd (omega arith)
 span-head sig (x ∷ []) k h = absurd (omega arith)
 span-head sig (x ∷ y ∷ r) k h = refl
+
+pub span-pos : (sig t : List ℕ) → 2 ≤ span sig t 1
+unfolding span
+span-pos sig [] = omega arith
+span-pos sig (x ∷ []) = omega arith
+span-pos sig (x ∷ y ∷ r) = omega arith
 
 pub span-zero : (sig t : List ℕ) → span sig t 0 ≡ 0
 unfolding span
@@ -209,3 +216,87 @@ checked-good sig t k h e = good sig t (sym h ∙ ap checkedNumber e)
 
 pub checked-signed : (sig : List ℕ) (k : Checked) → checkedNumber k ≡ sigRefusal sig → k ≡ Checked.Good → Signed sig
 checked-signed sig k h e = signed sig (sym h ∙ ap checkedNumber e)
+
+-- the ways out of the pass that counts the arguments still open
+pub untaken : (sig t : List ℕ) → (Good sig t → ⊥) → false ≡ eqb (refusal sig t) 0
+untaken sig t n = sym (ne-eqb (refusal sig t) 0 (λ h. n (good sig t h)))
+
+pub odd-out : (sig t : List ℕ) → length t % 2 ≡ 1 → false ≡ eqb (refusal sig t) 0
+unfolding refusal
+odd-out sig t h = sym (ne-eqb (refusal sig t) 0 (λ z. go z))
+  where
+    go : refusal sig t ≡ 0 → ⊥
+    go z =
+        let a = past (ltb 64 (length t)) 4 _ z in
+        let b = past (eqb (length t) 0) 5 _ (a .1) in
+        let c = past (eqb (length t % 2) 1) 5 _ (b .1) in
+        eqb-false _ _ (c .0) h
+
+pub all-taken : (sig t : List ℕ) → length t ≤ 64 → (length t ≡ 0 → ⊥) → (length t % 2 ≡ 1 → ⊥) → itemsGood (length sig) t ≡ true → span sig t 1 ≡ length t → refusal sig t ≡ 0
+unfolding refusal
+all-taken sig t a b c d e = rw (le-ltb 64 (length t) a, ne-eqb (length t) 0 b, ne-eqb (length t % 2) 1 c, d, eq-eqb (span sig t 1) (length t) e)
+
+-- where the pass stands: the items before `at` are good, and `opened` arguments are to come
+pub record Counting (sig t : List ℕ) (at opened : ℕ) : Type 0 where
+  pub within : at ≤ length t
+  pub even : at % 2 ≡ 0
+  pub few : opened ≤ 1 + 256 * at
+  pub items : itemsGood (length sig) t ≡ itemsGood (length sig) (drop at t)
+  pub counts : span sig t 1 ≡ at + span sig (drop at t) opened
+
+pub counting-start : (sig t : List ℕ) → Counting sig t 0 1
+counting-start sig t = record { within = omega arith; even = refl; few = omega arith; items = refl; counts = omega arith }
+
+module _ (sig t : List ℕ) (at opened x a : ℕ) (c : Counting sig t at opened) (h : at + 1 < length t) (n : opened ≡ 0 → ⊥)
+    (f : x ≡ getD t at 0 * 256 + getD t (at + 1) 0) (g : a ≡ getD sig x 0) where
+  long-enough : 2 ≤ length (drop at t)
+  long-enough = rw length-drop (omega arith)
+
+  here : getD (drop at t) 0 0 * 256 + getD (drop at t) 1 0 ≡ x
+  here =
+      let z : at + 0 ≡ at = omega arith in
+      rw (getD-drop at t 0 0, getD-drop at t 1 0, z) (sym f)
+
+  next : drop 2 (drop at t) ≡ drop (at + 2) t
+  next = drop-drop 2 at t
+
+  pub counting-bad : declared (length sig) x ≡ false → Good sig t → ⊥
+  counting-bad e q =
+      let s = rw (here, e) at (items-step (length sig) (drop at t) long-enough) in
+      let z : _≡_ {A = ℕ} 0 1 = cc (q .symbols, c .items, s) in
+      omega arith
+
+  pub counting-turn : a < 256 → declared (length sig) x ≡ true → Counting sig t (at + 2) (opened - 1 + a)
+  counting-turn l e =
+      let s = rw (here, e, next) at (items-step (length sig) (drop at t) long-enough) in
+      let o : opened ≡ suc (opened - 1) = omega arith in
+      let w = rw (here, ← g, next) at (span-head sig (drop at t) (opened - 1) long-enough) in
+      let v : a + (opened - 1) ≡ opened - 1 + a = omega arith in
+      let u = rw (← o, v) at w in
+      record { within = omega arith; even = omega (arith, c .even); few = omega (arith, c .few); items = c .items ∙ s; counts = omega (arith, c .counts, u) }
+
+pub counting-closed : (sig t : List ℕ) (at : ℕ) → Counting sig t at 0 → at < length t → Good sig t → ⊥
+counting-closed sig t at c h q = omega (arith, c .counts, span-zero sig (drop at t), q .shape)
+
+pub counting-end : (sig t : List ℕ) (at opened : ℕ) → Counting sig t at opened → length t ≤ at → length t ≤ 64 → (length t % 2 ≡ 1 → ⊥) → eqb opened 0 ≡ eqb (refusal sig t) 0
+counting-end sig t at opened c h a b = go (ℕ-discrete opened 0)
+  where
+    e : drop at t ≡ []
+    e = drop-of-length-le t h
+
+    s : span sig t 1 ≡ length t + 2 * opened
+    s = let k = rw e at (c .counts) in let z = span-short sig [] opened (omega arith) in omega (arith, k, z, c .within)
+
+    i : itemsGood (length sig) t ≡ true
+    i = let k = rw e at (c .items) in k ∙ items-short (length sig) [] (omega arith)
+
+    go : Dec (opened ≡ 0) → eqb opened 0 ≡ eqb (refusal sig t) 0
+    go (yes z) = eq-eqb opened 0 z ∙ sym (eq-eqb (refusal sig t) 0 (all-taken sig t a (λ q. empty q) b i (omega (arith, s))))
+      where
+        empty : length t ≡ 0 → ⊥
+        empty q = let k = c .counts in omega (arith, s, z, span-pos sig t)
+    go (no z) = ne-eqb opened 0 z ∙ untaken sig t (λ q. z (omega (arith, s, q .shape)))
+
+-- what a yes of the pass has shown
+pub is-good : (sig t : List ℕ) (r : Bool) → r ≡ eqb (refusal sig t) 0 → r ≡ true → Good sig t
+is-good sig t r h e = good sig t (eqb-true (refusal sig t) 0 (sym h ∙ e))

@@ -2,6 +2,7 @@
 use laws::wide;
 ghost use mathlib.Core.Path.{_≡_};
 ghost use Prim.Native.Nat.{_+_, _-_, _*_, _≤_, _<_, min};
+ghost use lib.Dec.{eqb};
 ghost use lib.ListN.{length, take, drop, getD};
 ghost use Rattle.terms.specs.Refusals.{numberOf, checkedNumber};
 ghost use Rattle.terms.specs.Terms.{span, declared as isDeclared, itemsGood, aritiesGood, sigRefusal, refusal, head, argRefusal, argBytes, argStart};
@@ -187,6 +188,32 @@ pub fn check(sig: &[u8], t: &[u8]) -> Checked
     } else {
         Checked::Refused(Refusal::Shape)
     }
+}
+
+// Does the term check take t: the same yes, in one pass that counts the arguments still open.
+pub fn is_term(sig: &[u8], t: &[u8]) -> bool
+    ensures { λ r. ⌜ r ≡ eqb (refusal (now (sig .entry)) (now (t .entry))) 0 ⌝ }
+{
+    if 64 < t.len() {
+        return false;
+    }
+    if t.len() % 2 == 1 {
+        return false;
+    }
+    let mut opened: usize = 1;
+    let mut at: usize = 0;
+    while at < t.len() {
+        if opened == 0 {
+            return false;
+        }
+        let x = item(t, at);
+        if !declared(sig.len(), x) {
+            return false;
+        }
+        opened = opened - 1 + arity(sig, x);
+        at += 2;
+    }
+    opened == 0
 }
 
 // Refusals 5 to 8 and 10, or none, for argument i of the term.

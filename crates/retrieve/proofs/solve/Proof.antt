@@ -1,11 +1,11 @@
-use Rattle.terms.specs.Terms.{Signed}
 use Prim.Native.Nat.{ℕ, _≤_, _-_, _+_, _<_}
 use mathlib.Core.Path.{_≡_, refl, sym, ap, _∙_}
 use native.Mathlib.Omega.{arith}
 use borrow.Author.Needs.{needs}
 use borrow.Author.Tests.{not-false}
 use Rattle.layout.proofs.Laws.{long, signature-good, in-use-small}
-use Rattle.terms.proofs.Laws.{checked-good}
+use Rattle.terms.specs.Terms.{Signed}
+use Rattle.terms.proofs.Laws.{checked-good, is-good}
 use Rattle.theory.specs.Checked.{fine-good}
 use Rattle.unify.specs.Checked.{asked-good}
 use Rattle.retrieve.proofs.solve.Statement.{statement}
@@ -44,33 +44,27 @@ term-requires : tie.Need-term-requires
 term-requires c κs = let L = long _ _ _ _ _ _ _ _ (sym ((c .before .before .before .before .before .before .before .long-enough) .ensures) ∙ not-false ((c .before .before .before .before .before .before .before .long-enough) .result) ((c .before .before .before .before .before .before .if1) .left)) in
     (L .bytes, in-use-small _ _ (sym ((c .before .before .before .before .before .in-use) .ensures) ∙ not-false ((c .before .before .before .before .before .in-use) .result) ((c .before .before .before .before .if2) .left)))
 
-check-requires-2 : tie.Need-check-requires-2
-check-requires-2 c κs = search needs
-
-enum-told-2 : tie.Need-enum-told-2
-enum-told-2 c = search needs
+is-term-requires : tie.Need-is-term-requires
+is-term-requires c κs = search needs
 
 returns-4 : tie.Need-returns-4
 returns-4 c = search needs
 
-enum-told-3 : tie.Need-enum-told-3
-enum-told-3 c = search needs
-
 record-requires : tie.Need-record-requires
-record-requires c κs = let g : Signed ((c .before .before .before .before .before .before .before .before .signature) .result .now) = rw ((c .before .before .before .before .before .before .before .before .signature) .ensures) (signature-good _) in
-    asked-good _ _ _ g (checked-good _ _ _ ((c .before .before .before .check2) .ensures) ((c .before .enum-told3) .given .1)) (checked-good _ _ _ ((c .before .before .before .before .before .before .before .check) .ensures) ((c .before .before .before .before .before .enum-told) .given .1))
+record-requires c κs = let g : Signed ((c .before .before .before .before .before .before .before .signature) .result .now) = rw ((c .before .before .before .before .before .before .before .signature) .ensures) (signature-good _) in
+    asked-good _ _ _ g (is-good _ _ _ ((c .before .before .is-term) .ensures) (not-false ((c .before .before .is-term) .result) ((c .before .if3) .left))) (checked-good _ _ _ ((c .before .before .before .before .before .before .check) .ensures) ((c .before .before .before .before .enum-told) .given .1))
 
 enum-known-r : tie.Need-enum-known-r
 enum-known-r c = search needs
 
+enum-told-2 : tie.Need-enum-told-2
+enum-told-2 c = search needs
+
+enum-told-3 : tie.Need-enum-told-3
+enum-told-3 c = search needs
+
 enum-told-4 : tie.Need-enum-told-4
 enum-told-4 c = search needs
-
-enum-told-5 : tie.Need-enum-told-5
-enum-told-5 c = search needs
-
-enum-told-6 : tie.Need-enum-told-6
-enum-told-6 c = search needs
 
 same-length : tie.Need-same-length
 same-length c = search needs
@@ -110,15 +104,13 @@ solve-spec =
     returns-3
     enum-told
     term-requires
-    check-requires-2
-    enum-told-2
+    is-term-requires
     returns-4
-    enum-told-3
     record-requires
     enum-known-r
+    enum-told-2
+    enum-told-3
     enum-told-4
-    enum-told-5
-    enum-told-6
     same-length
     returns-5
     same-length-2

@@ -4,7 +4,8 @@ use native.Mathlib.Omega.{arith}
 use borrow.Author.Needs.{needs}
 use borrow.Author.Tests.{not-false}
 use Rattle.layout.proofs.Laws.{long, signature-good, in-use-small}
-use Rattle.terms.proofs.Laws.{checked-good}
+use Rattle.terms.specs.Terms.{Signed}
+use Rattle.terms.proofs.Laws.{checked-good, is-good}
 use Rattle.theory.specs.Checked.{fine-good}
 use Rattle.unify.specs.Checked.{asked-good}
 use Rattle.retrieve.proofs.stands.Statement.{statement}
@@ -16,45 +17,39 @@ equal-requires c κs = search needs
 returns : tie.Need-returns
 returns c = search needs
 
-check-requires : tie.Need-check-requires
-check-requires c κs = search needs
-
-enum-told : tie.Need-enum-told
-enum-told c = search needs
+is-term-requires : tie.Need-is-term-requires
+is-term-requires c κs = search needs
 
 returns-2 : tie.Need-returns-2
 returns-2 c = search needs
 
-enum-told-2 : tie.Need-enum-told-2
-enum-told-2 c = search needs
-
 variant-requires : tie.Need-variant-requires
-variant-requires c κs = let p = (c .before .before .before .before .before .before .before .before) .pre in
-    let t = checked-good _ _ _ ((c .before .before .before .check) .ensures) ((c .before .enum-told2) .given .1) in
+variant-requires c κs = let p = (c .before .before .before .before .before .before .before) .pre in
+    let t = is-good _ _ _ ((c .before .before .is-term) .ensures) (not-false ((c .before .before .is-term) .result) ((c .before .if2) .left)) in
     (fine-good _ _ (p .0) (p .1), fine-good _ _ (p .0) t)
 
 returns-3 : tie.Need-returns-3
 returns-3 c = search needs
 
 instance-requires : tie.Need-instance-requires
-instance-requires c κs = let p = (c .before .before .before .before .before .before .before .before .before) .pre in
-    let t = checked-good _ _ _ ((c .before .before .before .before .check) .ensures) ((c .before .before .enum-told2) .given .1) in
+instance-requires c κs = let p = (c .before .before .before .before .before .before .before .before) .pre in
+    let t = is-good _ _ _ ((c .before .before .before .is-term) .ensures) (not-false ((c .before .before .before .is-term) .result) ((c .before .before .if2) .left)) in
     (fine-good _ _ (p .0) (p .1), fine-good _ _ (p .0) t)
 
 returns-4 : tie.Need-returns-4
 returns-4 c = search needs
 
 instance-requires-2 : tie.Need-instance-requires-2
-instance-requires-2 c κs = let p = (c .before .before .before .before .before .before .before .before .before .before) .pre in
-    let t = checked-good _ _ _ ((c .before .before .before .before .before .check) .ensures) ((c .before .before .before .enum-told2) .given .1) in
+instance-requires-2 c κs = let p = (c .before .before .before .before .before .before .before .before .before) .pre in
+    let t = is-good _ _ _ ((c .before .before .before .before .is-term) .ensures) (not-false ((c .before .before .before .before .is-term) .result) ((c .before .before .before .if2) .left)) in
     (fine-good _ _ (p .0) t, fine-good _ _ (p .0) (p .1))
 
 returns-5 : tie.Need-returns-5
 returns-5 c = search needs
 
 unifiable-requires : tie.Need-unifiable-requires
-unifiable-requires c κs = let p = (c .before .before .before .before .before .before .before .before .before .before) .pre in
-    let t = checked-good _ _ _ ((c .before .before .before .before .before .check) .ensures) ((c .before .before .before .enum-told2) .given .1) in
+unifiable-requires c κs = let p = (c .before .before .before .before .before .before .before .before .before) .pre in
+    let t = is-good _ _ _ ((c .before .before .before .before .is-term) .ensures) (not-false ((c .before .before .before .before .is-term) .result) ((c .before .before .before .if2) .left)) in
     asked-good _ _ _ (p .0) t (p .1)
 
 returns-6 : tie.Need-returns-6
@@ -66,10 +61,8 @@ stands-spec =
     (tie.spec
     equal-requires
     returns
-    check-requires
-    enum-told
+    is-term-requires
     returns-2
-    enum-told-2
     variant-requires
     returns-3
     instance-requires

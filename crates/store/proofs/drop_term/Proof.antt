@@ -1,14 +1,6 @@
-use Prim.Native.Nat.{ℕ, _≤_, _-_, _+_, _<_, _*_}
-use mathlib.Core.Path.{_≡_, refl, sym, ap, _∙_}
-use native.Mathlib.Omega.{arith}
+use mathlib.Core.Path.{_≡_}
+use Rattle.layout.proofs.Laws.{signature-good}
 use borrow.Author.Needs.{needs}
-use borrow.Author.Tests.{not-true, not-false}
-use lib.ListN.{length, take, length-drop}
-use lib.Seq.{length-take-le}
-use Rattle.layout.proofs.Laws.{long, signature-good}
-use Rattle.terms.specs.Terms.{Signed}
-use Rattle.terms.proofs.Laws.{checked-good, checked-signed}
-use Rattle.store.proofs.Laws.{sized}
 use Rattle.store.proofs.drop_term.Statement.{statement}
 use Rattle.store.proofs.drop_term.Tie as tie
 
@@ -18,20 +10,14 @@ signature-requires c κs = search needs
 term-requires : tie.Need-term-requires
 term-requires c κs = search needs
 
-check-requires : tie.Need-check-requires
-check-requires c κs = search needs
-
-enum-told : tie.Need-enum-told
-enum-told c = search needs
+is-term-requires : tie.Need-is-term-requires
+is-term-requires c κs = search needs
 
 returns : tie.Need-returns
 returns c = search needs
 
-enum-told-2 : tie.Need-enum-told-2
-enum-told-2 c = search needs
-
 outline-of-requires : tie.Need-outline-of-requires
-outline-of-requires c κs = (rw ((c .before .before .before .before .signature) .ensures) (signature-good _), (c .before .before .before .term) .ensures .1)
+outline-of-requires c κs = (rw ((c .before .before .before .signature) .ensures) (signature-good _), (c .before .before .term) .ensures .1)
 
 drop-keys-requires : tie.Need-drop-keys-requires
 drop-keys-requires c κs = search needs
@@ -63,10 +49,8 @@ drop-term-spec =
     (tie.spec
     signature-requires
     term-requires
-    check-requires
-    enum-told
+    is-term-requires
     returns
-    enum-told-2
     outline-of-requires
     drop-keys-requires
     same-length
