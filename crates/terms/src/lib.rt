@@ -167,30 +167,7 @@ pub fn check_signature(sig: &[u8]) -> Checked
     Checked::Refused(Refusal::Signature)
 }
 
-// Refusals 5 to 8, the lowest that applies, or none.
-pub fn check(sig: &[u8], t: &[u8]) -> Checked
-    ensures { λ r. ⌜ checkedNumber r ≡ refusal (now (sig .entry)) (now (t .entry)) ⌝ }
-{
-    if 64 < t.len() {
-        return Checked::Refused(Refusal::Size);
-    }
-    if t.len() == 0 {
-        return Checked::Refused(Refusal::Odd);
-    }
-    if t.len() % 2 == 1 {
-        return Checked::Refused(Refusal::Odd);
-    }
-    if !items_good(sig.len(), t) {
-        return Checked::Refused(Refusal::Symbol);
-    }
-    if walk(sig, t, 32) == t.len() {
-        Checked::Good
-    } else {
-        Checked::Refused(Refusal::Shape)
-    }
-}
-
-// Does the term check take t: the same yes, in one pass that counts the arguments still open.
+// Is t a term: one pass that counts the arguments still open.
 pub fn is_term(sig: &[u8], t: &[u8]) -> bool
     ensures { λ r. ⌜ r ≡ eqb (refusal (now (sig .entry)) (now (t .entry))) 0 ⌝ }
 {
@@ -214,6 +191,39 @@ pub fn is_term(sig: &[u8], t: &[u8]) -> bool
         at += 2;
     }
     opened == 0
+}
+
+// Why t is no term: refusals 5 to 8, the lowest that applies.
+fn refused_term(sig: &[u8], t: &[u8]) -> Checked
+    ensures { λ r. ⌜ checkedNumber r ≡ refusal (now (sig .entry)) (now (t .entry)) ⌝ }
+{
+    if 64 < t.len() {
+        return Checked::Refused(Refusal::Size);
+    }
+    if t.len() == 0 {
+        return Checked::Refused(Refusal::Odd);
+    }
+    if t.len() % 2 == 1 {
+        return Checked::Refused(Refusal::Odd);
+    }
+    if !items_good(sig.len(), t) {
+        return Checked::Refused(Refusal::Symbol);
+    }
+    if walk(sig, t, 32) == t.len() {
+        Checked::Good
+    } else {
+        Checked::Refused(Refusal::Shape)
+    }
+}
+
+// Refusals 5 to 8, the lowest that applies, or none. Most terms are good: what is not is looked at again for its number.
+pub fn check(sig: &[u8], t: &[u8]) -> Checked
+    ensures { λ r. ⌜ checkedNumber r ≡ refusal (now (sig .entry)) (now (t .entry)) ⌝ }
+{
+    if is_term(sig, t) {
+        return Checked::Good;
+    }
+    refused_term(sig, t)
 }
 
 // Refusals 5 to 8 and 10, or none, for argument i of the term.

@@ -1,0 +1,157 @@
+//! The exported calls of the library, and tables to lend to them.
+
+/// The eight tables, with the lengths that docs/TABLES.md gives.
+#[derive(Clone)]
+pub struct Tables {
+    bytes: Vec<u8>,
+    used: Vec<u64>,
+    label: Vec<u32>,
+    link: Vec<u16>,
+    sets: [Vec<u64>; 4],
+}
+
+macro_rules! exported {
+    ($($name:ident ($($more:ident : $kind:ty),*) over $pointer:tt;)*) => {
+        extern "C" {
+            $(fn $name(
+                bytes: *$pointer u8, bytes_count: usize,
+                used: *$pointer u64, used_count: usize,
+                label: *$pointer u32, label_count: usize,
+                link: *$pointer u16, link_count: usize,
+                sets0: *$pointer u64, sets0_count: usize,
+                sets1: *$pointer u64, sets1_count: usize,
+                sets2: *$pointer u64, sets2_count: usize,
+                sets3: *$pointer u64, sets3_count: usize,
+                $($more: $kind),*
+            ) -> u32;)*
+        }
+    };
+}
+
+exported! {
+    azunkefogo_open(signature: *const u8, signature_count: usize) over mut;
+    azunkefogo_insert(term: *const u8, term_count: usize, slot: *mut usize) over mut;
+    azunkefogo_delete(slot: usize) over mut;
+    azunkefogo_retrieve(
+        relation: usize,
+        question: *const u8, question_count: usize,
+        out: *mut u8, out_count: usize,
+        candidates: *mut usize, answers: *mut usize
+    ) over const;
+    azunkefogo_solve(
+        slot: usize,
+        question: *const u8, question_count: usize,
+        out: *mut u8, out_count: usize,
+        fields: *mut usize, written: *mut usize
+    ) over const;
+}
+
+/// Calls an exported function with the eight tables in front: each pointer is to a buffer of
+/// its own that lives for the whole call.
+macro_rules! with_tables {
+    ($name:ident, $get:ident, $tables:expr, $($more:expr),*) => {{
+        let Tables { bytes, used, label, link, sets: [sets0, sets1, sets2, sets3] } = $tables;
+        unsafe {
+            $name(
+                bytes.$get(), bytes.len(), used.$get(), used.len(),
+                label.$get(), label.len(), link.$get(), link.len(),
+                sets0.$get(), sets0.len(), sets1.$get(), sets1.len(),
+                sets2.$get(), sets2.len(), sets3.$get(), sets3.len(),
+                $($more),*
+            )
+        }
+    }};
+}
+
+/// The number 0 or a refusal's.
+fn answer<T>(number: u32, value: T) -> Result<T, u32> {
+    match number {
+        0 => Ok(value),
+        refusal => Err(refusal),
+    }
+}
+
+impl Tables {
+    pub fn open(signature: &[u8]) -> Tables {
+        let mut tables = Tables {
+            bytes: vec![0; 33_538],
+            used: vec![0; 8],
+            label: vec![0; 4096],
+            link: vec![0; 8190],
+            sets: std::array::from_fn(|_| vec![0; 8192]),
+        };
+        tables.clear(signature);
+        tables
+    }
+
+    /// Opens again.
+    pub fn clear(&mut self, signature: &[u8]) {
+        let (pointer, count) = (signature.as_ptr(), signature.len());
+        let number = with_tables!(azunkefogo_open, as_mut_ptr, self, pointer, count);
+        assert_eq!(number, 0, "the signature is accepted");
+    }
+
+    pub fn insert(&mut self, term: &[u8]) -> Result<usize, u32> {
+        let mut slot = 0;
+        let (pointer, count) = (term.as_ptr(), term.len());
+        let number = with_tables!(azunkefogo_insert, as_mut_ptr, self, pointer, count, &mut slot);
+        answer(number, slot)
+    }
+
+    pub fn delete(&mut self, slot: usize) -> Result<(), u32> {
+        let number = with_tables!(azunkefogo_delete, as_mut_ptr, self, slot);
+        answer(number, ())
+    }
+
+    /// The number of candidates and of answers; the listing goes to `out`.
+    pub fn retrieve(
+        &self,
+        relation: usize,
+        question: &[u8],
+        out: &mut [u8],
+    ) -> Result<(usize, usize), u32> {
+        let (mut candidates, mut answers) = (0, 0);
+        let (pointer, count) = (question.as_ptr(), question.len());
+        let (room, size) = (out.as_mut_ptr(), out.len());
+        let number = with_tables!(
+            azunkefogo_retrieve,
+            as_ptr,
+            self,
+            relation,
+            pointer,
+            count,
+            room,
+            size,
+            &mut candidates,
+            &mut answers
+        );
+        answer(number, (candidates, answers))
+    }
+
+    /// Whether the term of a slot unifies with the question: the solver, with no room to write.
+    pub fn unifies(&self, slot: usize, question: &[u8]) -> bool {
+        let (mut fields, mut written) = (0, 0);
+        let (pointer, count) = (question.as_ptr(), question.len());
+        let room = std::ptr::NonNull::dangling().as_ptr();
+        let number = with_tables!(
+            azunkefogo_solve,
+            as_ptr,
+            self,
+            slot,
+            pointer,
+            count,
+            room,
+            0,
+            &mut fields,
+            &mut written
+        );
+        number != 13
+    }
+
+    /// A copy whose stored terms have no bytes, so that each confirmation ends at once.
+    pub fn without_terms(&self) -> Tables {
+        let mut copy = self.clone();
+        copy.bytes[258..770].fill(0);
+        copy
+    }
+}
