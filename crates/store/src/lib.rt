@@ -108,7 +108,22 @@ fn outline_of(sig: &[u8], t: &[u8]) -> Outline
     }
 }
 
-// Adds the keys of a term to the index, with its slot; whether they fit.
+// Do the keys of a term fit; refusal 12 otherwise. Where a key is free for each item, none need be looked for.
+fn fits(link: &[u16], label: &[u32], o: Outline) -> bool
+    requires { ⌜ (8190 ≤ length (now link)) × (4096 ≤ length (now label)) × (o .items ≤ 32) × (length (o .ups) ≡ 32) × (length (o .ends) ≡ 32) ⌝ }
+{
+    let n = o.items;
+    if roomy(link, n) {
+        return true;
+    }
+    let ups = o.ups;
+    let ends = o.ends;
+    let mut keys = [0u16; 32];
+    walks::locate(link, label, &ups[..n], &ends[..n], &mut keys);
+    roomy(link, walks::missing(&keys[..n]))
+}
+
+// Adds the keys of a term to the index, with its slot.
 fn add_keys(
     link: &mut [u16],
     label: &mut [u32],
@@ -118,17 +133,13 @@ fn add_keys(
     s3: &mut [u64],
     o: Outline,
     slot: usize,
-) -> bool
+)
     requires { ⌜ Sized (now link) (now label) (now s0) (now s1) (now s2) (now s3) × (o .items ≤ 32) × (length (o .ups) ≡ 32) × (length (o .ends) ≡ 32) × (slot < 512) ⌝ }
 {
     let n = o.items;
     let ups = o.ups;
     let ends = o.ends;
     let mut keys = [0u16; 32];
-    walks::locate(link, label, &ups[..n], &ends[..n], &mut keys);
-    if !roomy(link, walks::missing(&keys[..n])) {
-        return false;
-    }
     walks::insert_all(
         link,
         label,
@@ -141,7 +152,6 @@ fn add_keys(
         &mut keys,
         slot,
     );
-    true
 }
 
 // Takes a slot out of the keys of its term.
@@ -191,9 +201,10 @@ pub fn insert(
         return Inserted::Refused(Refusal::Full);
     }
     let o = outline_of(sig, t);
-    if !add_keys(link, label, s0, s1, s2, s3, o, slot) {
+    if !fits(link, label, o) {
         return Inserted::Refused(Refusal::Keys);
     }
+    add_keys(link, label, s0, s1, s2, s3, o, slot);
     layout::put_term(bytes, slot, t);
     layout::put_used(used, set.insert(slot));
     Inserted::Slot(slot)

@@ -10,66 +10,29 @@ use Rattle.store.proofs.add_keys.Tie as tie
 array-share-prefix-ups : tie.Need-array-share-prefix-ups
 array-share-prefix-ups c = search needs
 
-slice-aggregate-locate : tie.Need-slice-aggregate-locate
-slice-aggregate-locate c = sym (length-take-le ((c .before .before .before .before .before .before .before .before .before .before .before) .args .o .items) ((c .before .before .before .before .before .before .before .before .before .before .before) .args .o .ups) (omega (arith, (c .before .before .before .before .before .before .before .before .before .before .before) .pre .1, (c .before .before .before .before .before .before .before .before .before .before .before) .pre .2)))
+slice-aggregate-insert-all : tie.Need-slice-aggregate-insert-all
+slice-aggregate-insert-all c = sym (length-take-le ((c .before .before .before .before .before .before .before .before .before .before .before .before .before .before .before) .args .o .items) ((c .before .before .before .before .before .before .before .before .before .before .before .before .before .before .before) .args .o .ups) (omega (arith, (c .before .before .before .before .before .before .before .before .before .before .before .before .before .before .before) .pre)))
 
 array-share-prefix-ends : tie.Need-array-share-prefix-ends
 array-share-prefix-ends c = search needs
 
-slice-aggregate-locate-2 : tie.Need-slice-aggregate-locate-2
-slice-aggregate-locate-2 c = sym (length-take-le ((c .before .before .before .before .before .before .before .before .before .before .before .before) .args .o .items) ((c .before .before .before .before .before .before .before .before .before .before .before .before) .args .o .ends) (omega (arith, (c .before .before .before .before .before .before .before .before .before .before .before .before) .pre .1, (c .before .before .before .before .before .before .before .before .before .before .before .before) .pre .3)))
+slice-aggregate-insert-all-2 : tie.Need-slice-aggregate-insert-all-2
+slice-aggregate-insert-all-2 c = sym (length-take-le ((c .before .before .before .before .before .before .before .before .before .before .before .before .before .before .before .before) .args .o .items) ((c .before .before .before .before .before .before .before .before .before .before .before .before .before .before .before .before) .args .o .ends) (omega (arith, (c .before .before .before .before .before .before .before .before .before .before .before .before .before .before .before .before) .pre)))
 
-slice-aggregate-locate-3 : tie.Need-slice-aggregate-locate-3
-slice-aggregate-locate-3 c = search needs
+slice-aggregate-insert-all-3 : tie.Need-slice-aggregate-insert-all-3
+slice-aggregate-insert-all-3 c = search needs
 
-locate-requires : tie.Need-locate-requires
-locate-requires c κs = let p = (c .before .before .before .before .before .before .before .before .before .before .before .before .before) .pre in
-    let a = length-take-le ((c .before .before .before .before .before .before .before .before .before .before .before .before .before) .args .o .items) ((c .before .before .before .before .before .before .before .before .before .before .before .before .before) .args .o .ups) (omega (arith, p .1, p .2)) in
-    let b = length-take-le ((c .before .before .before .before .before .before .before .before .before .before .before .before .before) .args .o .items) ((c .before .before .before .before .before .before .before .before .before .before .before .before .before) .args .o .ends) (omega (arith, p .1, p .3)) in
-    (p .0 .links, p .0 .labels, a ∙ sym b, omega (arith, a, p .1), omega arith)
-
-array-share-prefix-keys : tie.Need-array-share-prefix-keys
-array-share-prefix-keys c = search needs
-
-slice-aggregate-missing : tie.Need-slice-aggregate-missing
-slice-aggregate-missing c = sym (length-take-le ((c .before .before .before .before .before .before .before .before .before .before .before .before .before .before .before .before .before) .args .o .items) ((c .before .before .before .locate) .last .1 .1 .1 .1 .0) (omega (arith, (c .before .before .before .before .before .before .before .before .before .before .before .before .before .before .before .before .before) .pre .1, (c .before .before .before .locate) .kept .1 .1 .1 .1 .0)))
-
-missing-requires : tie.Need-missing-requires
-missing-requires c κs = search needs
-
-roomy-requires : tie.Need-roomy-requires
-roomy-requires c κs = search needs
+insert-all-requires : tie.Need-insert-all-requires
+insert-all-requires c κs = let p = (c .before .before .before .before .before .before .before .before .before .before .before .before .before .before .before .before .before) .pre in
+    let a = length-take-le ((c .before .before .before .before .before .before .before .before .before .before .before .before .before .before .before .before .before) .args .o .items) ((c .before .before .before .before .before .before .before .before .before .before .before .before .before .before .before .before .before) .args .o .ups) (omega (arith, p .1, p .2)) in
+    let b = length-take-le ((c .before .before .before .before .before .before .before .before .before .before .before .before .before .before .before .before .before) .args .o .items) ((c .before .before .before .before .before .before .before .before .before .before .before .before .before .before .before .before .before) .args .o .ends) (omega (arith, p .1, p .3)) in
+    (record { links = p .0 .links; labels = p .0 .labels; l0 = p .0 .l0; l1 = p .0 .l1; l2 = p .0 .l2; l3 = p .0 .l3 }, p .4, a ∙ sym b, omega (arith, a, p .1), omega arith)
 
 same-length : tie.Need-same-length
 same-length c = search needs
 
 same-length-2 : tie.Need-same-length-2
 same-length-2 c = search needs
-
-returns : tie.Need-returns
-returns c = search needs
-
-array-share-prefix-ups-2 : tie.Need-array-share-prefix-ups-2
-array-share-prefix-ups-2 c = search needs
-
-slice-aggregate-insert-all : tie.Need-slice-aggregate-insert-all
-slice-aggregate-insert-all c = sym (length-take-le ((c .before .before .before .before .before .before .before .before .before .before .before .before .before .before .before .before .before .before .before .before .before .before .before .before .before .before .before) .args .o .items) ((c .before .before .before .before .before .before .before .before .before .before .before .before .before .before .before .before .before .before .before .before .before .before .before .before .before .before .before) .args .o .ups) (omega (arith, (c .before .before .before .before .before .before .before .before .before .before .before .before .before .before .before .before .before .before .before .before .before .before .before .before .before .before .before) .pre .1, (c .before .before .before .before .before .before .before .before .before .before .before .before .before .before .before .before .before .before .before .before .before .before .before .before .before .before .before) .pre .2)))
-
-array-share-prefix-ends-2 : tie.Need-array-share-prefix-ends-2
-array-share-prefix-ends-2 c = search needs
-
-slice-aggregate-insert-all-2 : tie.Need-slice-aggregate-insert-all-2
-slice-aggregate-insert-all-2 c = sym (length-take-le ((c .before .before .before .before .before .before .before .before .before .before .before .before .before .before .before .before .before .before .before .before .before .before .before .before .before .before .before .before) .args .o .items) ((c .before .before .before .before .before .before .before .before .before .before .before .before .before .before .before .before .before .before .before .before .before .before .before .before .before .before .before .before) .args .o .ends) (omega (arith, (c .before .before .before .before .before .before .before .before .before .before .before .before .before .before .before .before .before .before .before .before .before .before .before .before .before .before .before .before) .pre .1, (c .before .before .before .before .before .before .before .before .before .before .before .before .before .before .before .before .before .before .before .before .before .before .before .before .before .before .before .before) .pre .3)))
-
-slice-aggregate-insert-all-3 : tie.Need-slice-aggregate-insert-all-3
-slice-aggregate-insert-all-3 c = search needs
-
-insert-all-requires : tie.Need-insert-all-requires
-insert-all-requires c κs = let p = (c .before .before .before .before .before .before .before .before .before .before .before .before .before .before .before .before .before .before .before .before .before .before .before .before .before .before .before .before .before) .pre in
-    let a = length-take-le ((c .before .before .before .before .before .before .before .before .before .before .before .before .before .before .before .before .before .before .before .before .before .before .before .before .before .before .before .before .before) .args .o .items) ((c .before .before .before .before .before .before .before .before .before .before .before .before .before .before .before .before .before .before .before .before .before .before .before .before .before .before .before .before .before) .args .o .ups) (omega (arith, p .1, p .2)) in
-    let b = length-take-le ((c .before .before .before .before .before .before .before .before .before .before .before .before .before .before .before .before .before .before .before .before .before .before .before .before .before .before .before .before .before) .args .o .items) ((c .before .before .before .before .before .before .before .before .before .before .before .before .before .before .before .before .before .before .before .before .before .before .before .before .before .before .before .before .before) .args .o .ends) (omega (arith, p .1, p .3)) in
-    let k = (c .before .before .before .before .before .before .before .before .before .before .before .before .before .before .before .locate) .kept .1 .1 .1 .1 .0 in
-    (record { links = p .0 .links; labels = p .0 .labels; l0 = p .0 .l0; l1 = p .0 .l1; l2 = p .0 .l2; l3 = p .0 .l3 }, p .4, a ∙ sym b, omega (arith, a, p .1, k), omega (arith, k))
 
 same-length-3 : tie.Need-same-length-3
 same-length-3 c = search needs
@@ -83,42 +46,23 @@ same-length-5 c = search needs
 same-length-6 : tie.Need-same-length-6
 same-length-6 c = search needs
 
-same-length-7 : tie.Need-same-length-7
-same-length-7 c = search needs
-
-same-length-8 : tie.Need-same-length-8
-same-length-8 c = search needs
-
-returns-2 : tie.Need-returns-2
-returns-2 c = search needs
+returns : tie.Need-returns
+returns c = search needs
 
 pub add-keys-spec : {M : Type 1} → statement M
 add-keys-spec =
     tie.close
     (tie.spec
     array-share-prefix-ups
-    slice-aggregate-locate
-    array-share-prefix-ends
-    slice-aggregate-locate-2
-    slice-aggregate-locate-3
-    locate-requires
-    array-share-prefix-keys
-    slice-aggregate-missing
-    missing-requires
-    roomy-requires
-    same-length
-    same-length-2
-    returns
-    array-share-prefix-ups-2
     slice-aggregate-insert-all
-    array-share-prefix-ends-2
+    array-share-prefix-ends
     slice-aggregate-insert-all-2
     slice-aggregate-insert-all-3
     insert-all-requires
+    same-length
+    same-length-2
     same-length-3
     same-length-4
     same-length-5
     same-length-6
-    same-length-7
-    same-length-8
-    returns-2)
+    returns)

@@ -2,12 +2,9 @@ use Prim.Native.Nat.{ℕ, _≤_, _-_, _+_, _<_, _*_}
 use mathlib.Core.Path.{_≡_, refl, sym, ap, _∙_}
 use native.Mathlib.Omega.{arith}
 use borrow.Author.Needs.{needs}
-use borrow.Author.Tests.{not-true, not-false}
-use lib.ListN.{length, take, length-drop}
-use lib.Seq.{length-take-le}
+use borrow.Author.Tests.{not-false}
 use Rattle.layout.proofs.Laws.{long, signature-good}
-use Rattle.terms.specs.Terms.{Signed}
-use Rattle.terms.proofs.Laws.{checked-good, checked-signed}
+use Rattle.terms.proofs.Laws.{checked-good}
 use Rattle.store.proofs.Laws.{sized}
 use Rattle.store.proofs.insert.Statement.{statement}
 use Rattle.store.proofs.insert.Tie as tie
@@ -122,9 +119,9 @@ returns-3 c = search needs
 outline-of-requires : tie.Need-outline-of-requires
 outline-of-requires c κs = (rw ((c .before .before .before .before .before .before .before .before .signature) .ensures) (signature-good _), checked-good _ _ _ ((c .before .before .before .before .before .before .before .check) .ensures) ((c .before .before .before .before .before .enum-told) .given .1) .short)
 
-add-keys-requires : tie.Need-add-keys-requires
-add-keys-requires c κs = let L = long _ _ _ _ _ _ _ _ (sym ((c .before .before .before .before .before .before .before .before .before .before .before .before .before .before .before .before .before .before .long-enough) .ensures) ∙ not-false ((c .before .before .before .before .before .before .before .before .before .before .before .before .before .before .before .before .before .before .long-enough) .result) ((c .before .before .before .before .before .before .before .before .before .before .before .before .before .before .before .before .before .if1) .left)) in
-    (sized _ _ _ _ _ _ _ _ L, (c .before .before .before .before .before .before .outline-of) .ensures, search needs, search needs, (c .before .before .before .before .before .before .before .if2) .left)
+fits-requires : tie.Need-fits-requires
+fits-requires c κs = let L = long _ _ _ _ _ _ _ _ (sym ((c .before .before .before .before .before .before .before .before .before .before .before .before .before .before .long-enough) .ensures) ∙ not-false ((c .before .before .before .before .before .before .before .before .before .before .before .before .before .before .long-enough) .result) ((c .before .before .before .before .before .before .before .before .before .before .before .before .before .if1) .left)) in
+    (L .links, L .labels, (c .before .before .outline-of) .ensures, search needs, search needs)
 
 same-length-25 : tie.Need-same-length-25
 same-length-25 c = search needs
@@ -153,15 +150,19 @@ same-length-32 c = search needs
 returns-4 : tie.Need-returns-4
 returns-4 c = search needs
 
+add-keys-requires : tie.Need-add-keys-requires
+add-keys-requires c κs = let L = long _ _ _ _ _ _ _ _ (sym ((c .before .before .before .before .before .before .before .before .before .before .before .before .before .before .before .before .before .before .before .before .before .before .long-enough) .ensures) ∙ not-false ((c .before .before .before .before .before .before .before .before .before .before .before .before .before .before .before .before .before .before .before .before .before .before .long-enough) .result) ((c .before .before .before .before .before .before .before .before .before .before .before .before .before .before .before .before .before .before .before .before .before .if1) .left)) in
+    (sized _ _ _ _ _ _ _ _ L, (c .before .before .before .before .before .before .before .before .before .before .outline-of) .ensures, search needs, search needs, (c .before .before .before .before .before .before .before .before .before .before .before .if2) .left)
+
 put-term-requires : tie.Need-put-term-requires
-put-term-requires c κs = let L = long _ _ _ _ _ _ _ _ (sym ((c .before .before .before .before .before .before .before .before .before .before .before .before .before .before .before .before .before .before .before .before .before .before .before .before .before .before .before .before .before .before .before .before .before .long-enough) .ensures) ∙ not-false ((c .before .before .before .before .before .before .before .before .before .before .before .before .before .before .before .before .before .before .before .before .before .before .before .before .before .before .before .before .before .before .before .before .before .long-enough) .result) ((c .before .before .before .before .before .before .before .before .before .before .before .before .before .before .before .before .before .before .before .before .before .before .before .before .before .before .before .before .before .before .before .before .if1) .left)) in
-    (L .bytes, (c .before .before .before .before .before .before .before .before .before .before .before .before .before .before .before .before .before .before .before .before .before .before .if2) .left, checked-good _ _ _ ((c .before .before .before .before .before .before .before .before .before .before .before .before .before .before .before .before .before .before .before .before .before .before .before .before .before .before .before .before .before .check) .ensures) ((c .before .before .before .before .before .before .before .before .before .before .before .before .before .before .before .before .before .before .before .before .before .before .before .before .before .before .before .enum-told) .given .1) .short)
+put-term-requires c κs = let L = long _ _ _ _ _ _ _ _ (sym ((c .before .before .before .before .before .before .before .before .before .before .before .before .before .before .before .before .before .before .before .before .before .before .before .before .before .before .before .before .before .before .before .before .before .before .before .before .long-enough) .ensures) ∙ not-false ((c .before .before .before .before .before .before .before .before .before .before .before .before .before .before .before .before .before .before .before .before .before .before .before .before .before .before .before .before .before .before .before .before .before .before .before .before .long-enough) .result) ((c .before .before .before .before .before .before .before .before .before .before .before .before .before .before .before .before .before .before .before .before .before .before .before .before .before .before .before .before .before .before .before .before .before .before .before .if1) .left)) in
+    (L .bytes, (c .before .before .before .before .before .before .before .before .before .before .before .before .before .before .before .before .before .before .before .before .before .before .before .before .before .if2) .left, checked-good _ _ _ ((c .before .before .before .before .before .before .before .before .before .before .before .before .before .before .before .before .before .before .before .before .before .before .before .before .before .before .before .before .before .before .before .before .check) .ensures) ((c .before .before .before .before .before .before .before .before .before .before .before .before .before .before .before .before .before .before .before .before .before .before .before .before .before .before .before .before .before .before .enum-told) .given .1) .short)
 
 insert-requires : tie.Need-insert-requires
 insert-requires c κs = search needs
 
 put-used-requires : tie.Need-put-used-requires
-put-used-requires c κs = let L = long _ _ _ _ _ _ _ _ (sym ((c .before .before .before .before .before .before .before .before .before .before .before .before .before .before .before .before .before .before .before .before .before .before .before .before .before .before .before .before .before .before .before .before .before .before .before .before .before .before .long-enough) .ensures) ∙ not-false ((c .before .before .before .before .before .before .before .before .before .before .before .before .before .before .before .before .before .before .before .before .before .before .before .before .before .before .before .before .before .before .before .before .before .before .before .before .before .before .long-enough) .result) ((c .before .before .before .before .before .before .before .before .before .before .before .before .before .before .before .before .before .before .before .before .before .before .before .before .before .before .before .before .before .before .before .before .before .before .before .before .before .if1) .left)) in
+put-used-requires c κs = let L = long _ _ _ _ _ _ _ _ (sym ((c .before .before .before .before .before .before .before .before .before .before .before .before .before .before .before .before .before .before .before .before .before .before .before .before .before .before .before .before .before .before .before .before .before .before .before .before .before .before .before .before .before .long-enough) .ensures) ∙ not-false ((c .before .before .before .before .before .before .before .before .before .before .before .before .before .before .before .before .before .before .before .before .before .before .before .before .before .before .before .before .before .before .before .before .before .before .before .before .before .before .before .before .before .long-enough) .result) ((c .before .before .before .before .before .before .before .before .before .before .before .before .before .before .before .before .before .before .before .before .before .before .before .before .before .before .before .before .before .before .before .before .before .before .before .before .before .before .before .before .if1) .left)) in
     L .used
 
 same-length-33 : tie.Need-same-length-33
@@ -231,7 +232,7 @@ insert-spec =
     same-length-24
     returns-3
     outline-of-requires
-    add-keys-requires
+    fits-requires
     same-length-25
     same-length-26
     same-length-27
@@ -241,6 +242,7 @@ insert-spec =
     same-length-31
     same-length-32
     returns-4
+    add-keys-requires
     put-term-requires
     insert-requires
     put-used-requires
