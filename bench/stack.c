@@ -75,6 +75,10 @@ int main(void) {
     measure("open", "4 symbols");
     chain(0x8000);
     measure("check_term", "32 levels");
+    chain(3);
+    measure("check_term", "32 levels, ends inside the term");
+    measure("insert", "32 levels, ends inside the term");
+    chain(0x8000);
     measure("insert", "32 levels");
     for (relation = 0; relation < 5; relation++) measure("retrieve", "32 levels");
     measure("solve", "32 levels");
