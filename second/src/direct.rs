@@ -54,8 +54,6 @@ struct Call {
     name: &'static str,
     result: u32,
     expected: Result<Answer, Refusal>,
-    // Another refusal that would be right too.
-    permitted: Option<Refusal>,
     inputs: Vec<Lent>,
     numbers: Vec<Lent>,
     out: Option<Lent>,
@@ -153,10 +151,6 @@ fn key_limit_signature(random: &mut Random) -> Vec<u8> {
     let mut signature = invent::spread_signature(random, 256);
     signature[..9].copy_from_slice(&[1, 0, 2, 3, 4, 5, 6, 7, 8]);
     signature
-}
-
-fn is_accepted(signature: &[u8]) -> bool {
-    reference::check_signature(signature).is_ok()
 }
 
 impl Driver {
@@ -264,9 +258,6 @@ impl Driver {
         if self.promise != Promise::Safe {
             *self.results.entry((name, call.result)).or_insert(0) += 1;
             match &call.expected {
-                _ if call.result != 0 && call.permitted == Some(call.result) => {
-                    self.settle_refusal(&call)
-                }
                 Ok(answer) if call.result == 0 => self.settle_answer(&call, answer),
                 Err(refusal) if call.result == *refusal => self.settle_refusal(&call),
                 other => {
@@ -328,7 +319,6 @@ impl Driver {
             name: "open",
             result,
             expected,
-            permitted: None,
             inputs: vec![input],
             numbers: Vec::new(),
             out: None,
@@ -351,7 +341,6 @@ impl Driver {
                 numbers: vec![slot],
                 bytes: Vec::new(),
             }),
-            permitted: None,
             inputs: vec![input],
             numbers,
             out: None,
@@ -372,7 +361,6 @@ impl Driver {
                 numbers: Vec::new(),
                 bytes: Vec::new(),
             }),
-            permitted: None,
             inputs: Vec::new(),
             numbers: Vec::new(),
             out: None,
@@ -396,7 +384,6 @@ impl Driver {
             name: "with_key",
             result,
             expected: self.owed(answer),
-            permitted: None,
             inputs: vec![input],
             numbers,
             out: Some(out),
@@ -422,7 +409,6 @@ impl Driver {
             name: "retrieve",
             result,
             expected: self.owed(answer),
-            permitted: None,
             inputs: vec![input],
             numbers,
             out: Some(out),
@@ -447,7 +433,6 @@ impl Driver {
             name: "solve",
             result,
             expected: self.owed(answer),
-            permitted: None,
             inputs: vec![input],
             numbers,
             out: Some(out),
@@ -486,18 +471,11 @@ impl Driver {
                 numbers: Vec::new(),
                 bytes: Vec::new(),
             }),
-            permitted: None,
             inputs: vec![input],
             numbers: Vec::new(),
             out: None,
             may_change_tables: false,
         });
-    }
-
-    /// Under a signature that opening refuses, document 01 names no number for a term:
-    /// 2, or what the rules of 5 to 8 give when read literally, are both let pass.
-    fn permitted_under(signature: &[u8]) -> Option<Refusal> {
-        (!is_accepted(signature)).then_some(reference::SIG)
     }
 
     fn check_term(&mut self) {
@@ -512,7 +490,6 @@ impl Driver {
                 numbers: Vec::new(),
                 bytes: Vec::new(),
             }),
-            permitted: Driver::permitted_under(&signature),
             inputs,
             numbers: Vec::new(),
             out: None,
@@ -542,7 +519,6 @@ impl Driver {
                 numbers: vec![part.start, part.len()],
                 bytes: Vec::new(),
             }),
-            permitted: Driver::permitted_under(&signature),
             inputs,
             numbers,
             out: None,
