@@ -1,6 +1,9 @@
 //! The benchmarks: bench/run builds and runs them.
 
 mod agreement;
+mod costly;
+mod counting;
+mod drawing;
 mod hard;
 mod items;
 mod laws;
@@ -8,18 +11,29 @@ mod library;
 mod matching;
 mod once;
 mod plain;
+mod plots;
 #[path = "../../second/src/random.rs"]
 mod random;
 mod ratios;
 mod slots;
+mod steps;
 mod timing;
 mod trees;
 mod unifier;
 mod workloads;
 
+fn print(ratios: &[timing::Ratio]) {
+    ratios.iter().for_each(timing::Ratio::print);
+}
+
 fn main() {
-    let workloads = workloads::all();
     let arguments: Vec<String> = std::env::args().skip(1).collect();
+    match arguments.as_slice() {
+        [mode, file] if mode == "pairs" => return counting::solve_all(file),
+        [mode] if mode == "costliest" => return print(&counting::costliest()),
+        _ => (),
+    }
+    let workloads = workloads::all();
     if let [_, side, name, operation] = arguments.as_slice() {
         let found = workloads.iter().find(|workload| workload.name == name);
         return once::run(side, found.expect("a workload"), operation);
@@ -28,14 +42,13 @@ fn main() {
         agreement::check(workload);
         println!("{}: all sides agree", workload.name);
     }
-    let mut ratios = Vec::new();
+    plots::draw(&workloads);
+    let mut ratios = counting::costliest();
     for workload in &workloads {
         ratios.extend(ratios::against_scan(workload));
         ratios.extend(ratios::against_plain(workload));
         ratios.extend(ratios::changes_against_plain(workload));
         ratios.push(ratios::growth(workload));
     }
-    for ratio in &ratios {
-        ratio.print();
-    }
+    print(&ratios);
 }

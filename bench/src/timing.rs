@@ -48,6 +48,10 @@ impl Ratio {
         let least = self.values.iter().copied().fold(f64::INFINITY, f64::min);
         let most = self.values.iter().copied().fold(0.0, f64::max);
         println!("ratio {} {:.3} at most {}", self.name, median(&self.values), self.limit);
+        if self.values.len() == 1 {
+            println!("  counted in instructions, the same in every run");
+            return;
+        }
         println!("  spread {least:.3} to {most:.3} over {} runs", self.values.len());
     }
 }
