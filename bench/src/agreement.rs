@@ -2,7 +2,7 @@
 
 use crate::items::{items, VARIABLE};
 use crate::plain::{Index, Relation, SLOTS};
-use crate::library::Tables;
+use crate::library::{unifiable, Tables};
 use crate::workloads::Workload;
 
 /// The workload stored in both, term by term.
@@ -51,8 +51,8 @@ fn compare(workload: &Workload, tables: &Tables, index: &Index, question: &[u8])
     assert_eq!(candidates, expected.count());
     assert_eq!(index.scan(question, &mut second), Ok(answers));
     assert_eq!(first, second, "{}: the scan", workload.name);
-    let solved = (0..SLOTS).filter(|&slot| tables.unifies(slot, question));
-    assert_eq!(solved.count(), answers, "{}: the solver", workload.name);
+    let unify = |term: &&Vec<u8>| unifiable(&workload.signature, term, question);
+    assert_eq!(workload.terms.iter().filter(unify).count(), answers, "{}: the pairs", workload.name);
     let hollow = tables.without_terms().retrieve(4, question, &mut first);
     assert_eq!(hollow, Ok((candidates, 0)));
 }

@@ -1,7 +1,7 @@
 //! Ratio 3: instructions of the library's unifier on pairs, counted by callgrind.
 
 use crate::costly::{search, Pair, SEARCHED};
-use crate::library::Tables;
+use crate::library::unifiable;
 use crate::once::counted_pass;
 use crate::timing::{median, Ratio};
 use std::fs;
@@ -19,16 +19,14 @@ fn read(digits: &str) -> Vec<u8> {
     starts.map(|at| u8::from_str_radix(&digits[at..at + 2], 16).expect("two digits")).collect()
 }
 
-/// The pass that callgrind watches: each pair of the file once, in a store of one slot.
+/// The pass that callgrind watches: each pair of the file once.
 pub fn solve_all(file: &str) {
     let lines = fs::read_to_string(file).expect("a file of pairs");
     for line in lines.lines() {
         let fields: Vec<Vec<u8>> = line.split(' ').map(read).collect();
         let [signature, stored, question] = fields.as_slice() else { panic!("three fields") };
-        let mut tables = Tables::open(signature);
-        assert_eq!(tables.insert(stored), Ok(0));
         counted_pass(&mut || {
-            std::hint::black_box(tables.unifies(0, question));
+            std::hint::black_box(unifiable(signature, stored, question));
         });
     }
 }

@@ -38,12 +38,30 @@ exported! {
         out: *mut u8, out_count: usize,
         candidates: *mut usize, answers: *mut usize
     ) over const;
-    azunkefogo_solve(
-        slot: usize,
+}
+
+extern "C" {
+    fn azunkefogo_unifiable(
+        signature: *const u8, signature_count: usize,
+        stored: *const u8, stored_count: usize,
         question: *const u8, question_count: usize,
-        out: *mut u8, out_count: usize,
-        fields: *mut usize, written: *mut usize
-    ) over const;
+        answer: *mut usize,
+    ) -> u32;
+}
+
+/// Whether two terms are unifiable, by the library's own unifier and without tables.
+pub fn unifiable(signature: &[u8], stored: &[u8], question: &[u8]) -> bool {
+    let mut answer = 0;
+    let number = unsafe {
+        azunkefogo_unifiable(
+            signature.as_ptr(), signature.len(),
+            stored.as_ptr(), stored.len(),
+            question.as_ptr(), question.len(),
+            &mut answer,
+        )
+    };
+    assert_eq!(number, 0, "both are terms");
+    answer == 1
 }
 
 /// Calls an exported function with the eight tables in front: each pointer is to a buffer of
@@ -126,26 +144,6 @@ impl Tables {
             &mut answers
         );
         answer(number, (candidates, answers))
-    }
-
-    /// Whether the term of a slot unifies with the question: the solver, with no room to write.
-    pub fn unifies(&self, slot: usize, question: &[u8]) -> bool {
-        let (mut fields, mut written) = (0, 0);
-        let (pointer, count) = (question.as_ptr(), question.len());
-        let room = std::ptr::NonNull::dangling().as_ptr();
-        let number = with_tables!(
-            azunkefogo_solve,
-            as_ptr,
-            self,
-            slot,
-            pointer,
-            count,
-            room,
-            0,
-            &mut fields,
-            &mut written
-        );
-        number != 13
     }
 
     /// A copy whose stored terms have no bytes, so that each confirmation ends at once.

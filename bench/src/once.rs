@@ -22,8 +22,8 @@ fn ask(side: &str, workload: &Workload, relation: usize) {
             "library" => ask_library(&tables, relation, &questions, out),
             "walk" => ask_library(&hollow, relation, &questions, out),
             "plain" => ask_plain(&index, Relation::ALL[relation], &questions, out),
-            "scan" => scan_plain(&index, &questions, out),
-            _ => scan_library(&tables, &questions, out),
+            "scan" => scan_library(workload, &questions, out),
+            _ => scan_plain(&index, &questions, out),
         };
     });
 }

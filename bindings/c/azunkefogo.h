@@ -103,6 +103,12 @@ uint32_t azunkefogo_argument(const uint8_t *signature, size_t signature_count,
                              const uint8_t *term, size_t term_count, size_t i,
                              size_t *start, size_t *length);
 
+/* Are a stored term and a question unifiable, their variables apart? Writes 1 or 0. Refuses with
+   2, and with 5 to 8 (the lowest number over both terms), and then leaves the answer. */
+uint32_t azunkefogo_unifiable(const uint8_t *signature, size_t signature_count,
+                              const uint8_t *stored, size_t stored_count,
+                              const uint8_t *question, size_t question_count, size_t *answer);
+
 /* ---- Calls on eight lent tables, each with its length ---------------------------------- */
 
 #define AZUNKEFOGO_LENT(kind)                                                              \

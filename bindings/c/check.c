@@ -70,6 +70,8 @@ static void check_refusals(void) {
     IS(azunkefogo_check_signature(NULL, 0), AZUNKEFOGO_SIG);
     IS(azunkefogo_check_term(signature, 4, NULL, 0), AZUNKEFOGO_ODD);
     IS(azunkefogo_argument(signature, 4, variable, 2, 1, &a, &b), AZUNKEFOGO_ARG);
+    IS(azunkefogo_unifiable(signature, 4, variable, 2, NULL, 0, &a), AZUNKEFOGO_ODD);
+    IS(azunkefogo_unifiable(NULL, 0, variable, 2, NULL, 0, &a), AZUNKEFOGO_SIG);
     IS(azunkefogo_index_insert(&tables, NULL, 0, &a), AZUNKEFOGO_ODD);
     IS(azunkefogo_index_delete(&tables, SIZE_MAX), AZUNKEFOGO_SLOT);
     IS(azunkefogo_index_with_key(&tables, NULL, 0, NULL, 0, &a), AZUNKEFOGO_KEY);

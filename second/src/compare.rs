@@ -8,7 +8,7 @@
 //!   compare --expect SEED          prints what the reference says to it
 //!   compare --coverage COUNT SEED  counts what the logs of these seeds reach
 //!
-//! The last line of a comparison is `compared N logs, D differences`; it ends with 0 only
+//! The last line of a comparison is `N logs agree, D differ`; it ends with 0 only
 //! when D is 0.
 
 mod coverage;
@@ -120,7 +120,7 @@ fn compare(plan: Plan) -> bool {
     let whole = workers.into_iter().all(|worker| worker.join().is_ok());
     let done = tally.done.load(Ordering::SeqCst);
     let differences = tally.differences.load(Ordering::SeqCst);
-    println!("compared {done} logs, {differences} differences");
+    println!("{} logs agree, {differences} differ", done - differences);
     whole && differences == 0 && done == plan.count
 }
 

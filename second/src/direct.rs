@@ -443,9 +443,10 @@ impl Driver {
     /// The calls that need no tables; they owe the full promise whatever the tables are.
     fn tableless(&mut self) {
         let promise = std::mem::replace(&mut self.promise, Promise::Full);
-        match self.random().below(3) {
+        match self.random().below(4) {
             0 => self.check_signature(),
             1 => self.check_term(),
+            2 => self.unifiable(),
             _ => self.argument(),
         }
         self.promise = promise;
@@ -492,6 +493,35 @@ impl Driver {
             }),
             inputs,
             numbers: Vec::new(),
+            out: None,
+            may_change_tables: false,
+        });
+    }
+
+    fn unifiable(&mut self) {
+        let signature = self.any_signature();
+        let (stored, question) = (self.term_bytes(), self.term_bytes());
+        let inputs = vec![self.lend(&signature), self.lend(&stored), self.lend(&question)];
+        let mut numbers = self.lend_numbers(1);
+        let result = library::unifiable(&inputs, &mut numbers);
+        let terms = [&stored, &question].map(|bytes| reference::check_term(&signature, bytes));
+        let lowest = terms.iter().filter_map(|term| term.as_ref().err().copied()).min();
+        let expected = match (reference::check_signature(&signature), lowest) {
+            (Err(refusal), _) | (Ok(()), Some(refusal)) => Err(refusal),
+            (Ok(()), None) => {
+                let [stored, question] = terms.map(|term| term.expect("neither is refused"));
+                Ok(Answer {
+                    numbers: vec![reference::is_answer(4, &question, &stored) as usize],
+                    bytes: Vec::new(),
+                })
+            }
+        };
+        self.settle(Call {
+            name: "unifiable",
+            result,
+            expected,
+            inputs,
+            numbers,
             out: None,
             may_change_tables: false,
         });

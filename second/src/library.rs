@@ -230,6 +230,15 @@ extern "C" {
         start: *mut usize,
         length: *mut usize,
     ) -> u32;
+    fn azunkefogo_unifiable(
+        signature: *const u8,
+        signature_count: usize,
+        stored: *const u8,
+        stored_count: usize,
+        question: *const u8,
+        question_count: usize,
+        answer: *mut usize,
+    ) -> u32;
 }
 
 /// Calls an exported function with the eight tables in front. The pointers are into lent
@@ -257,6 +266,15 @@ pub fn check_signature(signature: &Lent) -> u32 {
 pub fn check_term(signature: &Lent, term: &Lent) -> u32 {
     let (sig, sig_count) = (signature.pointer(), signature.count());
     unsafe { azunkefogo_check_term(sig, sig_count, term.pointer(), term.count()) }
+}
+
+pub fn unifiable(inputs: &[Lent], numbers: &mut [Lent]) -> u32 {
+    let [signature, stored, question] = inputs else { panic!("three inputs") };
+    let (sig, sig_count) = (signature.pointer(), signature.count());
+    let (term, term_count) = (stored.pointer(), stored.count());
+    let (asked, asked_count) = (question.pointer(), question.count());
+    let answer = numbers[0].pointer_mut();
+    unsafe { azunkefogo_unifiable(sig, sig_count, term, term_count, asked, asked_count, answer) }
 }
 
 pub fn argument(signature: &Lent, term: &Lent, number: usize, numbers: &mut [Lent]) -> u32 {

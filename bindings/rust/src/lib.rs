@@ -69,6 +69,24 @@ pub fn check_term(signature: &[u8], term: &[u8]) -> Result<(), Refusal> {
     settled(raw::check_term(signature, term))
 }
 
+/// Whether a stored term and a question are unifiable, their variables apart; no index is needed.
+///
+/// Refused with [`Refusal::Signature`], or as [`check_term`] refuses, with the lowest number over both terms.
+///
+/// ```
+/// use azunkefogo::{unifiable, Refusal};
+///
+/// let signature = [0, 1]; // a, g(1)
+/// assert_eq!(unifiable(&signature, &[0x80, 0], &[0, 1, 0x80, 0]), Ok(true)); // x0, g(x0): two variables
+/// assert_eq!(unifiable(&signature, &[0, 0], &[0, 1, 0x80, 0]), Ok(false)); // a, g(x0)
+/// assert_eq!(unifiable(&signature, &[0, 0], &[]), Err(Refusal::Odd));
+/// ```
+pub fn unifiable(signature: &[u8], stored: &[u8], question: &[u8]) -> Result<bool, Refusal> {
+    let (code, answer) = raw::unifiable(signature, stored, question);
+    settled(code)?;
+    Ok(answer == 1)
+}
+
 /// Argument `i` of a term as the part of its bytes where it stands; the first argument is 1.
 ///
 /// Refused as [`check_term`] refuses, and with [`Refusal::Argument`].

@@ -96,6 +96,15 @@ extern "C" {
         start: *mut usize,
         length: *mut usize,
     ) -> u32;
+    fn azunkefogo_unifiable(
+        signature: *const u8,
+        signature_count: usize,
+        stored: *const u8,
+        stored_count: usize,
+        question: *const u8,
+        question_count: usize,
+        answer: *mut usize,
+    ) -> u32;
 }
 
 /// Makes a call with the tables in front; `$pointer` is `as_ptr` or `as_mut_ptr`.
@@ -124,6 +133,19 @@ pub fn check_term(signature: &[u8], term: &[u8]) -> u32 {
     let (sig, count) = (signature.as_ptr(), signature.len());
     // Sound: only reads the two slices, which may overlap for that reason.
     unsafe { azunkefogo_check_term(sig, count, term.as_ptr(), term.len()) }
+}
+
+/// Answers the number, and 1 or 0.
+pub fn unifiable(signature: &[u8], stored: &[u8], question: &[u8]) -> (u32, usize) {
+    let mut answer = 0;
+    let (sig, sig_count) = (signature.as_ptr(), signature.len());
+    let (term, term_count) = (stored.as_ptr(), stored.len());
+    let (asked, asked_count) = (question.as_ptr(), question.len());
+    // Sound: only reads the three slices, and writes the one number of this function's own.
+    let code = unsafe {
+        azunkefogo_unifiable(sig, sig_count, term, term_count, asked, asked_count, &mut answer)
+    };
+    (code, answer)
 }
 
 /// Answers the number, and where the argument starts and how long it is.

@@ -1,4 +1,5 @@
 // The number of each answer, 0 or the refusal's; what was answered goes through `&mut`, only where the number is 0.
+use pairs::Paired;
 use retrieve::Retrieved;
 use retrieve::Solved;
 use store::Deleted;
@@ -6,12 +7,29 @@ use store::Inserted;
 use store::Listed;
 use store::Opened;
 ghost use mathlib.Core.Path.{_≡_};
+ghost use Rattle.export.specs.Pair.{pairedNumber, pairedAnswer};
 
 // A refusal's number as C has it.
 pub fn code(number: u8) -> u32
     ensures { λ r. ⌜ r ≡ number ⌝ }
 {
     number as u32
+}
+
+pub fn paired(answer: Paired, told: &mut usize) -> u32
+    ensures { λ r. ⌜ (r ≡ pairedNumber answer) × (now (told .exit) ≡ pairedAnswer answer (now (told .entry))) ⌝ }
+{
+    match answer {
+        Paired::Unifiable => {
+            *told = 1;
+            0
+        }
+        Paired::Apart => {
+            *told = 0;
+            0
+        }
+        Paired::Refused(why) => code(why.number()),
+    }
 }
 
 pub fn opened(answer: Opened) -> u32 {

@@ -6,11 +6,15 @@ use answers::deleted;
 use answers::inserted;
 use answers::listed;
 use answers::opened;
+use answers::paired;
 use answers::retrieved;
 use answers::solved;
 ghost use mathlib.Core.Path.{_≡_};
 ghost use Rattle.terms.specs.Terms.{sigRefusal, refusal, argRefusal};
+ghost use Rattle.theory.specs.Relations.{Unifiable};
+ghost use Rattle.pairs.specs.Pairs.{pairRefusal};
 ghost use Rattle.export.specs.Arguments.{startAfter, lengthAfter};
+ghost use Rattle.export.specs.Pair.{Told};
 
 // Refusal 2 or none.
 #[no_mangle]
@@ -49,6 +53,20 @@ pub extern "C" fn azunkefogo_argument(
     *start = terms::argument_start(sig, term, i);
     *length = part.len();
     0
+}
+
+// Refusal 2, 5 to 8 (the lowest over both terms) or none: whether a stored term and a question are unifiable, 1 or 0, without tables.
+#[no_mangle]
+pub extern "C" fn azunkefogo_unifiable(
+    sig: &[u8],
+    stored: &[u8],
+    question: &[u8],
+    answer: &mut usize,
+) -> u32
+    ensures { λ r. ⌜ r ≡ pairRefusal (now (sig .entry)) (now (stored .entry)) (now (question .entry)) ⌝ }
+    ensures { λ r. ⌜ Told r (now (answer .entry)) (now (answer .exit)) (Unifiable (now (sig .entry)) (now (stored .entry)) (now (question .entry))) ⌝ }
+{
+    paired(pairs::unifiable(sig, stored, question), answer)
 }
 
 // Sets the signature and empties all.

@@ -1,7 +1,8 @@
 use Prim.Native.Nat.{ℕ, zero, suc, _+_, _-_, _*_, _≤_, _<_, min, _/_, _%_}
 use mathlib.Core.Path.{_≡_, refl, sym, ap, _∙_}
+use mathlib.Core.Logic.{_⊎_, inl, inr, ⊎-elim}
 use mathlib.Core.List.{List, [], _∷_, _++_}
-use lib.ListN.{length, getD, take, drop, length-take, length-drop, drop-of-length-le}
+use lib.ListN.{length, getD, take, drop, length-take, length-drop, drop-of-length-le, List·getD-eq-default}
 use lib.Seq.{take-all, drop-nil, drop-drop}
 use native.Mathlib.Nat.{add-assoc, zero-add, suc-add, add-suc}
 use native.Mathlib.Numerals.{one-add, add-one}
@@ -14,7 +15,7 @@ use lib.Dec.{ltb, leb, eqb}
 use Rattle.terms.specs.declared.Checked as Checked
 use Rattle.terms.specs.declared.Checked.{Checked}
 use Rattle.terms.specs.Refusals.{checkedNumber}
-use borrow.Author.Tests.{leb-true, le-leb, lt-leb, ltb-false, eqb-true, eqb-false, eq-eqb, ne-eqb, le-ltb}
+use borrow.Author.Tests.{leb-true, le-leb, lt-leb, ltb-false, eqb-true, eqb-false, eq-eqb, ne-eqb, le-ltb, lt-ltb}
 use lib.Seq.{drop-cons, drop-length, getD-drop}
 use native.Mathlib.Decide.{ℕ-discrete}
 
@@ -240,12 +241,11 @@ all-taken sig t a b c d e = rw (le-ltb 64 (length t) a, ne-eqb (length t) 0 b, n
 pub record Counting (sig t : List ℕ) (at opened : ℕ) : Type 0 where
   pub within : at ≤ length t
   pub even : at % 2 ≡ 0
-  pub few : opened ≤ 1 + 256 * at
   pub items : itemsGood (length sig) t ≡ itemsGood (length sig) (drop at t)
   pub counts : span sig t 1 ≡ at + span sig (drop at t) opened
 
 pub counting-start : (sig t : List ℕ) → Counting sig t 0 1
-counting-start sig t = record { within = omega arith; even = refl; few = omega arith; items = refl; counts = omega arith }
+counting-start sig t = record { within = omega arith; even = refl; items = refl; counts = omega arith }
 
 module _ (sig t : List ℕ) (at opened x a : ℕ) (c : Counting sig t at opened) (h : at + 1 < length t) (n : opened ≡ 0 → ⊥)
     (f : x ≡ getD t at 0 * 256 + getD t (at + 1) 0) (g : a ≡ getD sig x 0) where
@@ -266,14 +266,14 @@ module _ (sig t : List ℕ) (at opened x a : ℕ) (c : Counting sig t at opened)
       let z : _≡_ {A = ℕ} 0 1 = cc (q .symbols, c .items, s) in
       omega arith
 
-  pub counting-turn : a < 256 → declared (length sig) x ≡ true → Counting sig t (at + 2) (opened - 1 + a)
-  counting-turn l e =
+  pub counting-turn : declared (length sig) x ≡ true → Counting sig t (at + 2) (opened - 1 + a)
+  counting-turn e =
       let s = rw (here, e, next) at (items-step (length sig) (drop at t) long-enough) in
       let o : opened ≡ suc (opened - 1) = omega arith in
       let w = rw (here, ← g, next) at (span-head sig (drop at t) (opened - 1) long-enough) in
       let v : a + (opened - 1) ≡ opened - 1 + a = omega arith in
       let u = rw (← o, v) at w in
-      record { within = omega arith; even = omega (arith, c .even); few = omega (arith, c .few); items = c .items ∙ s; counts = omega (arith, c .counts, u) }
+      record { within = omega arith; even = omega (arith, c .even); items = c .items ∙ s; counts = omega (arith, c .counts, u) }
 
 pub counting-closed : (sig t : List ℕ) (at : ℕ) → Counting sig t at 0 → at < length t → Good sig t → ⊥
 counting-closed sig t at c h q = omega (arith, c .counts, span-zero sig (drop at t), q .shape)
@@ -296,6 +296,51 @@ counting-end sig t at opened c h a b = go (ℕ-discrete opened 0)
         empty : length t ≡ 0 → ⊥
         empty q = let k = c .counts in omega (arith, s, z, span-pos sig t)
     go (no z) = ne-eqb opened 0 z ∙ untaken sig t (λ q. z (omega (arith, s, q .shape)))
+
+-- the arguments that an item brings, by what it is
+pub brings-symbol : (sig : List ℕ) (x r : ℕ) → x < length sig → r ≡ getD sig x 0 → r ≡ pick (declared (length sig) x) (getD sig x 0) 4096
+unfolding declared
+brings-symbol sig x r h e = rw (lt-ltb x (length sig) h) e
+
+pub brings-variable : (sig : List ℕ) (x : ℕ) → length sig ≤ x → 32768 ≤ x → x < 32800 → 0 ≡ pick (declared (length sig) x) (getD sig x 0) 4096
+unfolding declared
+brings-variable sig x h a b = let z : getD sig x 0 ≡ 0 = List·getD-eq-default sig 0 h in rw (le-ltb x (length sig) h, le-leb 32768 x a, lt-ltb x 32800 b, z)
+
+pub brings-low : (sig : List ℕ) (x : ℕ) → length sig ≤ x → x < 32768 → 4096 ≡ pick (declared (length sig) x) (getD sig x 0) 4096
+unfolding declared
+brings-low sig x h a = rw (le-ltb x (length sig) h, lt-leb 32768 x a)
+
+pub brings-high : (sig : List ℕ) (x : ℕ) → length sig ≤ x → 32800 ≤ x → 4096 ≡ pick (declared (length sig) x) (getD sig x 0) 4096
+unfolding declared
+brings-high sig x h a = let b : 32768 ≤ x = omega arith in rw (le-ltb x (length sig) h, le-leb 32768 x b, le-ltb x 32800 a)
+
+-- where the pass stands: it counts, or it has met what is no item and can't close any more
+pub record Passing (sig t : List ℕ) (at opened : ℕ) : Type 0 where
+  pub within : at ≤ length t
+  pub even : at % 2 ≡ 0
+  pub few : opened ≤ 1 + 4096 * at
+  pub so : Counting sig t at opened ⊎ ((Good sig t → ⊥) × (4096 ≤ opened + at))
+
+pub passing-start : (sig t : List ℕ) → Passing sig t 0 1
+passing-start sig t = record { within = omega arith; even = refl; few = omega arith; so = inl (counting-start sig t) }
+
+module _ (sig t : List ℕ) (at opened x a : ℕ) (c : Passing sig t at opened) (h : at + 1 < length t) (n : opened ≡ 0 → ⊥)
+    (f : x ≡ getD t at 0 * 256 + getD t (at + 1) 0) (l : a ≤ 4096) where
+  pub passing-turn : a ≡ pick (declared (length sig) x) (getD sig x 0) 4096 → Passing sig t (at + 2) (opened - 1 + a)
+  passing-turn g = record { within = omega arith; even = omega (arith, c .even); few = omega (arith, c .few); so = go (c .so) (declared (length sig) x) refl g }
+    where
+      go : Counting sig t at opened ⊎ ((Good sig t → ⊥) × (4096 ≤ opened + at)) → (b : Bool) → declared (length sig) x ≡ b → a ≡ pick b (getD sig x 0) 4096
+          → Counting sig t (at + 2) (opened - 1 + a) ⊎ ((Good sig t → ⊥) × (4096 ≤ opened - 1 + a + (at + 2)))
+      go (inl k) true e g = inl (counting-turn sig t at opened x a k h n f g e)
+      go (inl k) false e g = inr (counting-bad sig t at opened x (getD sig x 0) k h n f refl e, omega arith)
+      go (inr k) b e g = inr (k .0, omega (arith, k .1))
+
+pub passing-closed : (sig t : List ℕ) (at : ℕ) → Passing sig t at 0 → at < length t → length t ≤ 64 → Good sig t → ⊥
+passing-closed sig t at c h a q = ⊎-elim (λ (k : Counting sig t at 0). counting-closed sig t at k h q) (λ k. omega (arith, k .1)) (c .so)
+
+pub passing-end : (sig t : List ℕ) (at opened : ℕ) → Passing sig t at opened → length t ≤ at → length t ≤ 64 → (length t % 2 ≡ 1 → ⊥) → eqb opened 0 ≡ eqb (refusal sig t) 0
+passing-end sig t at opened c h a b =
+    ⊎-elim (λ (k : Counting sig t at opened). counting-end sig t at opened k h a b) (λ k. ne-eqb opened 0 (omega (arith, k .1, c .within)) ∙ untaken sig t (k .0)) (c .so)
 
 -- what a yes of the pass has shown
 pub is-good : (sig t : List ℕ) (r : Bool) → r ≡ eqb (refusal sig t) 0 → r ≡ true → Good sig t

@@ -4,6 +4,7 @@ ghost use mathlib.Core.Path.{_≡_};
 ghost use Prim.Native.Nat.{_+_, _-_, _*_, _≤_, _<_, min};
 ghost use lib.Dec.{eqb};
 ghost use lib.ListN.{length, take, drop, getD};
+ghost use Rattle.laws.specs.Choice.{pick};
 ghost use Rattle.terms.specs.Refusals.{numberOf, checkedNumber};
 ghost use Rattle.terms.specs.Terms.{span, declared as isDeclared, itemsGood, aritiesGood, sigRefusal, refusal, head, argRefusal, argBytes, argStart};
 
@@ -167,6 +168,19 @@ pub fn check_signature(sig: &[u8]) -> Checked
     Checked::Refused(Refusal::Signature)
 }
 
+// The arguments that item x brings; what is no item brings more than a term can close, so that the pass needs no way out for it.
+fn brings(sig: &[u8], x: usize) -> usize
+    ensures { λ r. ⌜ (r ≡ pick (isDeclared (length (now (sig .entry))) x) (getD (now (sig .entry)) x 0) 4096) × (r ≤ 4096) ⌝ }
+{
+    if x < sig.len() {
+        return wide(sig[x]);
+    }
+    if x < 32768 {
+        return 4096;
+    }
+    if x < 32800 { 0 } else { 4096 }
+}
+
 // Is t a term: one pass that counts the arguments still open.
 pub fn is_term(sig: &[u8], t: &[u8]) -> bool
     ensures { λ r. ⌜ r ≡ eqb (refusal (now (sig .entry)) (now (t .entry))) 0 ⌝ }
@@ -183,11 +197,7 @@ pub fn is_term(sig: &[u8], t: &[u8]) -> bool
         if opened == 0 {
             return false;
         }
-        let x = item(t, at);
-        if !declared(sig.len(), x) {
-            return false;
-        }
-        opened = opened - 1 + arity(sig, x);
+        opened = opened - 1 + brings(sig, item(t, at));
         at += 2;
     }
     opened == 0

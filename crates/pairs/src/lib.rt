@@ -1,0 +1,50 @@
+// One stored term and one question, without tables: are they unifiable.
+use terms::Checked;
+use terms::Refusal;
+ghost use mathlib.Core.Path.{_≡_};
+ghost use Rattle.terms.specs.Refusals.{checkedNumber};
+ghost use Rattle.pairs.specs.Pairs.{lowest, pairRefusal, Answers};
+
+pub enum Paired {
+    Unifiable,
+    Apart,
+    Refused(Refusal),
+}
+
+// Of two refusals the one with the lower number.
+fn lower(a: Checked, b: Checked) -> Checked
+    ensures { λ r. ⌜ checkedNumber r ≡ lowest (checkedNumber a) (checkedNumber b) ⌝ }
+{
+    if a.number() == 0 {
+        return b;
+    }
+    if b.number() == 0 {
+        return a;
+    }
+    if b.number() < a.number() { b } else { a }
+}
+
+// Refusal 2, or of 5 to 8 the lowest over both terms, or none.
+pub fn check(sig: &[u8], stored: &[u8], question: &[u8]) -> Checked
+    ensures { λ r. ⌜ checkedNumber r ≡ pairRefusal (now (sig .entry)) (now (stored .entry)) (now (question .entry)) ⌝ }
+{
+    let signature = terms::check_signature(sig);
+    if signature.number() != 0 {
+        return signature;
+    }
+    lower(terms::check(sig, stored), terms::check(sig, question))
+}
+
+// Whether some substitution makes the stored term and the question the same, their variables apart.
+pub fn unifiable(sig: &[u8], stored: &[u8], question: &[u8]) -> Paired
+    ensures { λ r. ⌜ Answers (now (sig .entry)) (now (stored .entry)) (now (question .entry)) r ⌝ }
+{
+    let checked = check(sig, stored, question);
+    if let Checked::Refused(why) = checked {
+        return Paired::Refused(why);
+    }
+    if unify::unifiable(sig, stored, question) {
+        return Paired::Unifiable;
+    }
+    Paired::Apart
+}
