@@ -1,3 +1,5 @@
 pub mod Candidates
+pub mod Formulas
+pub mod FormulasTable
 pub mod Spelt
 pub mod Trees
