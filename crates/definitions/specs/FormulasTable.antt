@@ -17,10 +17,7 @@ use Rattle.terms.specs.Terms.{Signed}
 use Rattle.definitions.specs.Trees.{count, Symbol, Variable, Shaped, Shapes}
 use Rattle.definitions.specs.Candidates.{isVariable, agree, agreeAll, opens, stars, candidate}
 use Rattle.definitions.specs.Formulas.{Held, Set, union, meet, star, isTop, hasKey, holdsKey, isHeld, terms, getTerms, noArguments, form, allVariables, getVariants, eachVariants, getInstances, eachInstances, getGeneralizations, eachGeneralizations, getUnifiables, eachUnifiables, formula, stays}
-use Rattle.definitions.specs.Spelt.{shaped-count}
-
-clash : {A : Type 0} → false ≡ true → A
-clash h = absurd (let z : _≡_ {A = ℕ} 0 1 = cc in omega arith)
+use Rattle.definitions.specs.Spelt.{clash, shaped-count}
 
 -- GetTerms is right: the test of a key says whether the term has the key
 pub has-key : (t : Tm) (K : Key) → (hasKey t K ≡ true) ↔ HasKey t K

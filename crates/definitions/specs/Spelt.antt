@@ -76,10 +76,13 @@ items-parts zero us = refl
 items-parts (suc k) nil = refl
 items-parts (suc k) (cons u us) = rw (append-assoc, items-parts k us)
 
+pub clash : {A : Type 0} → false ≡ true → A
+clash h = absurd (let z : _≡_ {A = ℕ} 0 1 = cc in omega arith)
+
 -- a choice that is true took its first side
 taken : (b c : Bool) → pick b c false ≡ true → (b ≡ true) × (c ≡ true)
 taken true c h = (refl, h)
-taken false c h = absurd (let z : _≡_ {A = ℕ} 0 1 = cc in omega arith)
+taken false c h = clash h
 
 module _ (sig : List ℕ) where
   shapes-firsts : (k : ℕ) (us : Args) → Shapes sig us → Shapes sig (firsts k us)
