@@ -1,6 +1,7 @@
 pub mod Candidates
 pub mod Formulas
 pub mod FormulasTable
+pub mod KeyBytes
 pub mod Linear
 pub mod LinearFlat
 pub mod LinearTrees

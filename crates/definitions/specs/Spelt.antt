@@ -80,7 +80,7 @@ pub clash : {A : Type 0} → false ≡ true → A
 clash h = absurd (let z : _≡_ {A = ℕ} 0 1 = cc in omega arith)
 
 -- a choice that is true took its first side
-taken : (b c : Bool) → pick b c false ≡ true → (b ≡ true) × (c ≡ true)
+pub taken : (b c : Bool) → pick b c false ≡ true → (b ≡ true) × (c ≡ true)
 taken true c h = (refl, h)
 taken false c h = clash h
 
