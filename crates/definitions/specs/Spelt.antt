@@ -7,13 +7,13 @@ use mathlib.Core.Bool.{Bool, true, false}
 use mathlib.Core.Option.{Option, some, none}
 use native.Mathlib.Nat.{add-zero, zero-add, suc-add, add-assoc}
 use native.Mathlib.Omega.{arith}
-use borrow.Author.Tests.{lt-ltb, le-ltb, le-leb, ltb-true, leb-true, eqb-true}
+use borrow.Author.Tests.{lt-ltb, le-ltb, le-leb, lt-leb, ltb-true, leb-true, eqb-true}
 use lib.Dec.{ltb, leb, eqb}
 use lib.ListN.{length, getD, take, drop, length-append, length-take, length-drop, List·getD-eq-default}
 use lib.Seq.{drop-drop}
 use Rattle.laws.specs.Choice.{pick}
 use Rattle.laws.specs.Members.{In, NoDup}
-use Rattle.keys.specs.Keys.{Tm, Args, node, nil, cons, nth, root, Key, keysT, size, sizes, HasKey, keys-length, keys-nodup, in-has, has-in}
+use Rattle.keys.specs.Keys.{Tm, Args, node, nil, cons, nth, root, Key, endOf, keysT, size, sizes, HasKey, keys-length, keys-nodup, in-has, has-in}
 use Rattle.terms.specs.Terms.{numbers, span, declared, itemsGood, Signed, refusal, head, afterArgs, argRefusal, argBytes}
 use Rattle.terms.proofs.Laws.{Good, good, span-zero, span-add, all-taken, length-numbers, arg-none, items-step}
 use Rattle.theory.specs.Items.{Fine}
@@ -83,6 +83,15 @@ clash h = absurd (let z : _≡_ {A = ℕ} 0 1 = cc in omega arith)
 pub taken : (b c : Bool) → pick b c false ≡ true → (b ≡ true) × (c ≡ true)
 taken true c h = (refl, h)
 taken false c h = clash h
+
+-- the end of a variable's path is the star, of a symbol's the symbol
+pub end-variable : (x : ℕ) → 32768 ≤ x → endOf x ≡ 256
+unfolding endOf
+end-variable x h = rw (le-leb 32768 x h)
+
+pub end-symbol : (x : ℕ) → x < 32768 → endOf x ≡ x
+unfolding endOf
+end-symbol x h = rw (lt-leb 32768 x h)
 
 module _ (sig : List ℕ) where
   shapes-firsts : (k : ℕ) (us : Args) → Shapes sig us → Shapes sig (firsts k us)

@@ -13,9 +13,8 @@ use Rattle.keys.specs.Keys.{Tm, Args, node, nil, cons, endOf}
 use Rattle.terms.specs.Terms.{Signed, refusal}
 use Rattle.definitions.specs.Trees.{count, Symbol, Variable, Shaped, Shapes, treeOf}
 use Rattle.definitions.specs.Candidates.{agree, agreeAll, opens, stars, candidate, isCandidate}
-use Rattle.definitions.specs.Spelt.{shaped-count, tree-shaped}
+use Rattle.definitions.specs.Spelt.{end-variable, end-symbol, shaped-count, tree-shaped}
 use Rattle.paths.specs.Cand.{Agree, Agrees}
-use Rattle.paths.specs.Spelt.{end-variable, end-symbol}
 
 false-true : {A : Type 0} → false ≡ true → A
 false-true h = absurd (let z : _≡_ {A = ℕ} 0 1 = cc in omega arith)
