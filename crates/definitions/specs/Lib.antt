@@ -1,2 +1,4 @@
 pub mod Candidates
 pub mod Trees
+pub mod Relations
+pub mod Decisions
