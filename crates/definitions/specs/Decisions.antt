@@ -9,12 +9,13 @@ use mathlib.Core.List.{List, [], _∷_}
 use Rattle.terms.specs.Terms.{refusal, sigRefusal}
 use Rattle.theory.specs.Flat.{Item}
 use Rattle.theory.specs.Unify.{Bind, full}
-use Rattle.theory.specs.Items.{arity, items, shift, shift-terms, Fine}
+use Rattle.theory.specs.Items.{arity, items, shift, shift-terms}
 use Rattle.theory.specs.Checked.{fine}
-use Rattle.theory.specs.Relations.{Decided, decided-yes, decided-no, Unifies}
+use Rattle.theory.specs.Relations.{Decided, decided-yes, decided-no, Unifies, Unifiable}
 use Rattle.theory.specs.Solver.{solution, Solution, solution-right}
 use Rattle.theory.specs.Matcher.{matcher, bound, named, turns-right, renames-right}
 use Rattle.definitions.specs.Relations.{Stands}
+use Rattle.definitions.specs.Records.{recordOf, IsRecord}
 
 -- the same bytes
 unfoldable pub same? : (s t : List ℕ) → Dec (s ≡ t)
@@ -66,3 +67,24 @@ stands-right sig (suc zero) t q s a b = renames-right (arity sig) (items q) (ite
 stands-right sig (suc (suc zero)) t q s a b = turns-right (arity sig) (items q) (items t) (fine sig q s b .term) (fine sig t s a .term)
 stands-right sig (suc (suc (suc zero))) t q s a b = turns-right (arity sig) (items t) (items q) (fine sig t s a .term) (fine sig q s b .term)
 stands-right sig (suc (suc (suc (suc r)))) t q s a b = unifies-right (arity sig) (items t) (shift 32 (items q)) (bindings? sig t q) (bindings-right sig t q s a b)
+
+-- the record of a stored term and a question, where they unify
+abbrev pub recorded : Option (List Bind) → Option (List ℕ)
+recorded (some B) = some (recordOf (full B))
+recorded none = none
+
+unfoldable pub record? : List ℕ → List ℕ → List ℕ → Option (List ℕ)
+record? sig t q = recorded (bindings? sig t q)
+
+abbrev pub Record? : List ℕ → List ℕ → List ℕ → Option (List ℕ) → Type 0
+Record? sig t q (some w) = IsRecord sig t q w
+Record? sig t q none = Unifiable sig t q → ⊥
+
+-- it is computed rightly: there is a record exactly where the two unify
+pub record-right : (sig t q : List ℕ) → sigRefusal sig ≡ 0 → refusal sig t ≡ 0 → refusal sig q ≡ 0 → Record? sig t q (record? sig t q)
+unfolding record?
+record-right sig t q s a b = go (bindings? sig t q) (bindings-right sig t q s a b)
+  where
+    go : (o : Option (List Bind)) → Solution (arity sig) (items t) (shift 32 (items q)) o → Record? sig t q (recorded o)
+    go (some B) h = record { by = full B; unifier = record { mgu = h .1; least = h .2 }; is = refl }
+    go none h = λ u. h (u .by) (u .sub) (u .same)

@@ -2,3 +2,4 @@ pub mod Candidates
 pub mod Trees
 pub mod Relations
 pub mod Decisions
+pub mod Records

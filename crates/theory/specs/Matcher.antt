@@ -1,6 +1,6 @@
 -- Matching as a function: the bindings that turn one list of items into another, or a proof that none do.
 use mathlib.Core.Path.{_≡_, refl, sym, ap, _∙_, subst}
-use mathlib.Core.Logic.{_⊎_, inl, inr, _≢_}
+use mathlib.Core.Logic.{_⊎_, inl, inr}
 use mathlib.Core.Bool.{Bool, true, false}
 use mathlib.Core.Option.{Option, some, none}
 use mathlib.Core.List.{List, [], _∷_, _++_}
@@ -9,10 +9,10 @@ use native.Mathlib.Decide.{ℕ-discrete}
 use native.Mathlib.Omega.{arith}
 use Rattle.laws.specs.Choice.{pick as cut}
 use Rattle.theory.specs.Flat.{Item, sy, va, Terms}
-use Rattle.theory.specs.Subst.{vars, app, app-agree, In, Sub}
+use Rattle.theory.specs.Subst.{vars, app, app-agree, Sub}
 use Rattle.theory.specs.Unify.{pick, Bind, _:=_, Unbound, Has}
 use Rattle.theory.specs.Cut.{first, rest, first-rest, first-terms, rest-terms}
-use Rattle.theory.specs.Match.{once, Agrees, Inv, start, step-symbol, step-new, step-old, none-symbol, none-differs, once-sub, agrees-once, found}
+use Rattle.theory.specs.Match.{once, Agrees, Inv, start, step-symbol, step-new, step-old, none-symbol, none-differs, once-sub, found}
 use Rattle.theory.specs.Relations.{Turns, Renames, Decided, decided-yes, decided-no}
 use Rattle.theory.specs.Solver.{once-cases, terms?}
 
