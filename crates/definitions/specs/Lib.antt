@@ -3,3 +3,4 @@ pub mod Trees
 pub mod Relations
 pub mod Decisions
 pub mod Records
+pub mod ReadBack

@@ -13,3 +13,4 @@ pub mod Checked
 pub mod Robinson
 pub mod Solver
 pub mod Matcher
+pub mod Fresh
