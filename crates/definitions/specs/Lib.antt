@@ -4,3 +4,4 @@ pub mod Relations
 pub mod Decisions
 pub mod Records
 pub mod ReadBack
+pub mod Cases
