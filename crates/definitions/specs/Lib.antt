@@ -1,9 +1,14 @@
 pub mod Candidates
+pub mod Cases
+pub mod Decisions
 pub mod Formulas
 pub mod FormulasTable
 pub mod KeyBytes
 pub mod Linear
 pub mod LinearFlat
 pub mod LinearTrees
+pub mod ReadBack
+pub mod Records
+pub mod Relations
 pub mod Spelt
 pub mod Trees

@@ -6,7 +6,7 @@ use Prim.Native.Nat.{ℕ, _≤_}
 use native.Mathlib.Decide.{ℕ-discrete}
 use native.Mathlib.Omega.{arith}
 use Rattle.theory.specs.Flat.{Item, sy, va, Terms, readable}
-use Rattle.theory.specs.Subst.{vars, app, app-vars, In, app-agree, Sub}
+use Rattle.theory.specs.Subst.{vars, app, app-vars, app-app, In, app-agree, Sub}
 use Rattle.theory.specs.Unify.{one, one-same, one-other}
 
 -- a value that is a variable is no larger one
@@ -63,3 +63,29 @@ module _ (ar : ℕ → ℕ) where
       go : (n : ℕ) → n ≤ z → one x u n ≡ vars y → Dec (x ≡ n) → y ≤ z
       go n b k (yes p) = omega (arith, c y (sym (one-same x u) ∙ ap (one x u) p ∙ k))
       go n b k (no f) = let q : n ≡ y = cc (one-other x u n f) in omega arith
+
+  -- the three properties as textbooks have them: the same terms, any other unifier factors, applied twice it is itself
+  pub record Most (s t : List Item) (θ : ℕ → List Item) : Type 0 where
+    pub sub : Sub ar θ
+    pub unifies : app θ s ≡ app θ t
+    pub factors : (σ : ℕ → List Item) → Sub ar σ → app σ s ≡ app σ t → (ρ : ℕ → List Item) × Sub ar ρ × ((x : ℕ) → σ x ≡ app ρ (θ x))
+    pub idempotent : (x : ℕ) → app θ (θ x) ≡ θ x
+
+  -- they say the same
+  pub mgu-most : (s t : List Item) (θ : ℕ → List Item) → Mgu s t θ → Most s t θ
+  mgu-most s t θ p = record { sub = p .sub; unifies = p .unifies; factors = λ σ w e. (σ, w, λ x. sym (p .general σ w e x)); idempotent = p .general θ (p .sub) (p .unifies) }
+
+  pub most-mgu : (s t : List Item) (θ : ℕ → List Item) → Most s t θ → Mgu s t θ
+  most-mgu s t θ p = record { sub = p .sub; unifies = p .unifies; general = λ σ w e x. go σ (p .factors σ w e) x }
+    where
+      go : (σ : ℕ → List Item) → ((ρ : ℕ → List Item) × Sub ar ρ × ((x : ℕ) → σ x ≡ app ρ (θ x))) → (x : ℕ) → app σ (θ x) ≡ σ x
+      go σ f x = app-agree σ (λ y. app (f .0) (θ y)) (θ x) (λ y i. f .2 y) ∙ sym (app-app (f .0) θ (θ x)) ∙ ap (app (f .0)) (p .idempotent x) ∙ sym (f .2 x)
+
+  -- substitutions with the same values have the same properties
+  pub most-same : (s t : List Item) (θ η : ℕ → List Item) → ((x : ℕ) → θ x ≡ η x) → Most s t θ → Most s t η
+  most-same s t θ η h p = record {
+    sub = λ x. rw (← h x) (p .sub x);
+    unifies = app-agree η θ s (λ x i. sym (h x)) ∙ p .unifies ∙ app-agree θ η t (λ x i. h x);
+    factors = λ σ w e. (let f = p .factors σ w e in (f .0, f .1, λ x. f .2 x ∙ ap (app (f .0)) (h x)));
+    idempotent = λ x. app-agree η θ (η x) (λ y i. sym (h y)) ∙ ap (app θ) (sym (h x)) ∙ p .idempotent x ∙ h x;
+  }

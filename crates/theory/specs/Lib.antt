@@ -10,3 +10,7 @@ pub mod Walk
 pub mod Relations
 pub mod Match
 pub mod Checked
+pub mod Robinson
+pub mod Solver
+pub mod Matcher
+pub mod Fresh

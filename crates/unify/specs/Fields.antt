@@ -7,9 +7,10 @@ use native.Mathlib.Omega.{arith}
 use lib.ListN.{length, getD, drop, take, set, length-append}
 use lib.Seq.{take-at, drop-at, drop-drop}
 use Rattle.theory.specs.Subst.{app}
+use Rattle.definitions.specs.Records.{bytes}
 use Rattle.unify.specs.Run.{term}
 use Rattle.unify.specs.Values.{value, value-bound}
-use Rattle.unify.specs.Record.{bytes, length-bytes, front, termBytes}
+use Rattle.unify.specs.Record.{length-bytes, front, termBytes}
 
 -- R is what is left of T to write; `used` bytes of out₀ are overwritten
 pub record Filling (T R out₀ out : List ℕ) (used : ℕ) : Type 0 where

@@ -13,3 +13,4 @@ pub mod Fields
 pub mod Whole
 pub mod Checked
 pub mod Arms
+pub mod ReadBack

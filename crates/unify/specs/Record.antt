@@ -13,13 +13,9 @@ use Rattle.theory.specs.Items.{item16, items16, arity, number}
 use borrow.Author.Tests.{lt-ltb, le-ltb}
 use Rattle.theory.specs.Nodes.{args}
 use Rattle.unify.specs.Run.{Shape, term}
+use Rattle.definitions.specs.Records.{bytes}
 use Rattle.theory.specs.Walk.{extra, args-turn, args-end, Walk, walk-turn}
 use Rattle.unify.specs.Values.{value, value-zero, value-free, value-bound}
-
--- items in bytes, two bytes an item
-unfoldable pub bytes : List Item → List ℕ
-bytes [] = []
-bytes (i ∷ l) = number i / 256 ∷ number i % 256 ∷ bytes l
 
 pub bytes-append : (a b : List Item) → bytes (a ++ b) ≡ bytes a ++ bytes b
 unfolding bytes
@@ -34,9 +30,6 @@ length-bytes (i ∷ l) = omega (arith, length-bytes l)
 -- w written at the start of out
 abbrev pub front : List ℕ → List ℕ → List ℕ
 front w out = w ++ drop (length w) out
-
-pub two : (c : ℕ) → List ℕ
-two c = c / 256 ∷ c % 256 ∷ []
 
 module _ (sig pool tab : List ℕ) where
   unfoldable pub itemBytes : ℕ → ℕ → List ℕ

@@ -1,20 +1,21 @@
--- The record of a substitution, and what a call that writes it promises.
+-- What a call that writes the record promises, and that any two answers that it permits coincide.
 use mathlib.Core.Path.{_≡_, refl, sym, ap, _∙_}
 use mathlib.Core.Logic.{inl, _≢_}
 use mathlib.Core.List.{List, [], _∷_, _++_}
-use Prim.Native.Nat.{ℕ, zero, suc, _+_, _-_, _*_, _≤_, _<_}
+use Prim.Native.Nat.{ℕ, zero, suc, _+_, _-_, _*_, _/_, _%_, _≤_, _<_}
 use native.Mathlib.Decide.{ℕ-discrete}
 use native.Mathlib.Omega.{arith}
 use lib.ListN.{length, getD, length-append}
-use Rattle.theory.specs.Flat.{Item, sy, va}
+use Rattle.theory.specs.Flat.{Item}
 use Rattle.theory.specs.Subst.{vars, app, In, in-app}
 use Rattle.theory.specs.Unify.{one, one-same, one-other, Bind, _:=_, full, Good, Unbound, unbound, Has, not-both}
-use Rattle.theory.specs.Canon.{Least, Mgu, unique}
 use Rattle.theory.specs.Relations.{Unifies}
 use Rattle.theory.specs.Items.{arity}
 use Rattle.unify.specs.Run.{Given, Tab, term, Unified}
 use Rattle.unify.specs.Values.{value, value-full, Sizes}
-use Rattle.unify.specs.Record.{bytes, front}
+use Rattle.theory.specs.Matcher.{items?}
+use Rattle.definitions.specs.Records.{Unifier, unless, listedFrom, bytes, fieldBytes, written, recordOf, countOf, Short, one-unifier, one-listing}
+use Rattle.unify.specs.Record.{front}
 use Rattle.unify.specs.Fields.{field, fieldIf, part, fieldsFrom, recordBytes, length-part, part-none}
 use Rattle.unify.specs.declared.Recorded.{Recorded}
 use Rattle.unify.specs.declared.Recorded.the-variants.{Written, Nothing, Long, Room}
@@ -38,63 +39,47 @@ unbound-in ((x := u) ∷ B) g y z i = let r = in-app (one x (app (full B) u)) z 
 pub bound-other : (B : List Bind) → Good B → (y : ℕ) (u : List Item) → Has y u B → full B y ≡ vars y → ⊥
 bound-other B g y u h e = not-both y u B (unbound-in B g y y (rw e (inl refl))) h
 
--- the field of y, where its value l is not y itself
-fieldOr : {A : Type 0} → Dec A → List ℕ → List ℕ
-fieldOr (yes a) f = []
-fieldOr (no n) f = f
-
-pub fieldOf : ℕ → List Item → List ℕ
-fieldOf y [] = field y (bytes [])
-fieldOf y (sy f ∷ l) = field y (bytes (sy f ∷ l))
-fieldOf y (va x ∷ []) = fieldOr (ℕ-discrete x y) (field y (bytes (va x ∷ [])))
-fieldOf y (va x ∷ i ∷ l) = field y (bytes (va x ∷ i ∷ l))
-
-field-own : (y : ℕ) → fieldOf y (vars y) ≡ []
-unfolding fieldOf fieldOr
-field-own y = go (ℕ-discrete y y)
-  where
-    go : (d : Dec (y ≡ y)) → fieldOr d (field y (bytes (vars y))) ≡ []
-    go (yes e) = refl
-    go (no n) = absurd (n refl)
-
-field-other : (y : ℕ) (l : List Item) → (l ≡ vars y → ⊥) → fieldOf y l ≡ field y (bytes l)
-unfolding fieldOf fieldOr
-field-other y [] n = refl
-field-other y (sy f ∷ l) n = refl
-field-other y (va x ∷ []) n = go (ℕ-discrete x y)
-  where
-    go : (d : Dec (x ≡ y)) → fieldOr d (field y (bytes (vars x))) ≡ field y (bytes (vars x))
-    go (yes e) = absurd (n (ap vars e))
-    go (no f) = refl
-field-other y (va x ∷ i ∷ l) n = refl
-
--- the record of θ: the variables from y on, k of them
-pub fieldsOf : (ℕ → List Item) → ℕ → ℕ → List ℕ
-fieldsOf θ zero y = []
-fieldsOf θ (suc k) y = fieldOf y (θ y) ++ fieldsOf θ k (y + 1)
-
--- the record: 64 written variables
-abbrev pub recordOf : (ℕ → List Item) → List ℕ
-recordOf θ = fieldsOf θ 64 0
+-- the fields as the code writes them
+field-bytes : (y : ℕ) (l : List Item) → y < 64 → field y (bytes l) ≡ fieldBytes (y := l)
+unfolding field fieldBytes bytes
+field-bytes y l b =
+    let e : length (bytes l) + 2 ≡ suc (suc (length (bytes l))) = omega arith in
+    let h : (32768 + y) / 256 ≡ 128 = omega arith in
+    let k : (32768 + y) % 256 ≡ y = omega arith in
+    rw (e, h, k)
 
 module _ (sig pool tab : List ℕ) (G : Given sig pool) (B : List Bind) (g : Good B) (t : Tab sig pool tab B) (few : length B ≤ 64) where
-  part-field : (y : ℕ) → y < 64 → part sig pool tab y ≡ fieldOf y (full B y)
-  unfolding part
-  part-field y b = go (getD tab y 0) refl
+  -- an entry is 0 exactly where the value is the variable itself
+  entry-own : (y : ℕ) → y < 64 → full B y ≡ vars y → getD tab y 0 ≡ 0
+  entry-own y b e = go (getD tab y 0) refl
     where
-      v : value sig pool tab 64 y ≡ full B y
-      v = value-full sig pool tab G B g t few y b
+      go : (n : ℕ) → getD tab y 0 ≡ n → n ≡ 0
+      go zero q = refl
+      go (suc p) q = absurd (bound-other B g y (term sig pool p) (rw q at (t y b)) e)
 
-      go : (e : ℕ) → getD tab y 0 ≡ e → fieldIf y e (bytes (value sig pool tab 64 y)) ≡ fieldOf y (full B y)
-      go zero e = sym (ap (fieldOf y) (unbound y B (rw e at (t y b))) ∙ field-own y)
-      go (suc p) e = ap (λ l. field y (bytes l)) v ∙ sym (field-other y (full B y) (bound-other B g y (term sig pool p) (rw e at (t y b))))
+  entry-other : (y : ℕ) → y < 64 → (full B y ≡ vars y → ⊥) → getD tab y 0 ≢ 0
+  entry-other y b n q = n (unbound y B (rw q at (t y b)))
 
-  from : (k y : ℕ) → y + k ≤ 64 → fieldsFrom sig pool tab k y ≡ fieldsOf (full B) k y
-  unfolding fieldsFrom fieldsOf
+  part-field : (y : ℕ) → y < 64 → (full B y ≡ vars y → ⊥) → part sig pool tab y ≡ fieldBytes (y := full B y)
+  unfolding part
+  part-field y b n = go (getD tab y 0) (entry-other y b n)
+    where
+      go : (e : ℕ) → e ≢ 0 → fieldIf y e (bytes (value sig pool tab 64 y)) ≡ fieldBytes (y := full B y)
+      go zero z = absurd (z refl)
+      go (suc p) z = ap (λ l. field y (bytes l)) (value-full sig pool tab G B g t few y b) ∙ field-bytes y (full B y) b
+
+  from : (k y : ℕ) → y + k ≤ 64 → fieldsFrom sig pool tab k y ≡ written (listedFrom (full B) k y)
+  unfolding fieldsFrom listedFrom written
   from zero y b = refl
-  from (suc k) y b = rw (part-field y (omega arith), from k (y + 1) (omega arith))
+  from (suc k) y b = go (items? (full B y) (vars y)) (from k (y + 1) (omega arith))
+    where
+      go : (d : Dec (full B y ≡ vars y)) → fieldsFrom sig pool tab k (y + 1) ≡ written (listedFrom (full B) k (y + 1))
+          → part sig pool tab y ++ fieldsFrom sig pool tab k (y + 1) ≡ written (unless d (y := full B y) (listedFrom (full B) k (y + 1)))
+      go (yes e) h = rw (part-none sig pool tab y (entry-own y (omega arith) e), h)
+      go (no n) h = rw (part-field y (omega arith) n, h)
 
   pub record-full : recordBytes sig pool tab ≡ recordOf (full B)
+  unfolding recordOf
   record-full = from 64 0 (omega arith)
 
 -- the record's length, from the sizes
@@ -134,7 +119,7 @@ module _ (sig pool tab sz : List ℕ) (s : Sizes sig pool tab 64 sz) (short : (y
   pub total-record : totalFrom tab sz 64 0 ≡ length (recordBytes sig pool tab)
   total-record = total-from 64 0 (omega arith)
 
--- the number of fields: 0 or 1 for an entry of the table, and for the bytes of a variable
+-- the number of fields: 0 or 1 for an entry of the table
 abbrev pub some : ℕ → ℕ
 some zero = 0
 some (suc p) = 1
@@ -156,40 +141,20 @@ pub count-end : (tab : List ℕ) (k y : ℕ) → k ≡ 0 → countFrom tab k y �
 unfolding countFrom
 count-end tab k y e = rw e
 
--- the fields of θ that are there, of k variables from y on
-unfoldable pub countsOf : (ℕ → List Item) → ℕ → ℕ → ℕ
-countsOf θ zero y = 0
-countsOf θ (suc k) y = some (length (fieldOf y (θ y))) + countsOf θ k (y + 1)
-
--- 'solve answers the number of fields'
-abbrev pub countOf : (ℕ → List Item) → ℕ
-countOf θ = countsOf θ 64 0
-
 module _ (sig pool tab : List ℕ) (G : Given sig pool) (B : List Bind) (g : Good B) (t : Tab sig pool tab B) (few : length B ≤ 64) where
-  count-part : (y : ℕ) → some (getD tab y 0) ≡ some (length (part sig pool tab y))
-  unfolding part field
-  count-part y = go (getD tab y 0)
-    where
-      go : (e : ℕ) → some e ≡ some (length (fieldIf y e (bytes (value sig pool tab 64 y))))
-      go zero = refl
-      go (suc p) = refl
-
-  counts : (k y : ℕ) → y + k ≤ 64 → countFrom tab k y ≡ countsOf (full B) k y
-  unfolding countFrom countsOf
+  counts : (k y : ℕ) → y + k ≤ 64 → countFrom tab k y ≡ length (listedFrom (full B) k y)
+  unfolding countFrom listedFrom
   counts zero y b = refl
-  counts (suc k) y b = rw (count-part y, part-field sig pool tab G B g t few y (omega arith), counts k (y + 1) (omega arith))
+  counts (suc k) y b = go (items? (full B y) (vars y)) (counts k (y + 1) (omega arith))
+    where
+      go : (d : Dec (full B y ≡ vars y)) → countFrom tab k (y + 1) ≡ length (listedFrom (full B) k (y + 1))
+          → some (getD tab y 0) + countFrom tab k (y + 1) ≡ length (unless d (y := full B y) (listedFrom (full B) k (y + 1)))
+      go (yes e) h = rw (entry-own sig pool tab G B g t few y (omega arith) e, h) (omega arith)
+      go (no n) h = let c = some-one (getD tab y 0) (entry-other sig pool tab G B g t few y (omega arith) n) in omega arith
 
   pub count-full : countFrom tab 64 0 ≡ countOf (full B)
+  unfolding countOf
   count-full = counts 64 0 (omega arith)
-
--- the most general unifier that takes the smallest variables
-pub record Unifier (sig : List ℕ) (a b : List Item) (θ : ℕ → List Item) : Type 0 where
-  pub mgu : Mgu (arity sig) a b θ
-  pub least : Least θ
-
--- no value has over 2,048 items
-abbrev pub Short : (ℕ → List Item) → Type 0
-Short θ = (y : ℕ) → y < 64 → length (θ y) ≤ 2048
 
 -- the record of a unifier is written: m fields, n bytes
 pub record Writes (sig : List ℕ) (a b : List Item) (out₀ out : List ℕ) (m n : ℕ) : Type 0 where
@@ -261,22 +226,14 @@ bytes-some zero n m z h = absurd (z refl)
 bytes-some (suc e) n m z h = rw h
 
 -- any two answers that the promise permits coincide
-fields-same : (θ η : ℕ → List Item) → ((x : ℕ) → θ x ≡ η x) → (k y : ℕ) → fieldsOf θ k y ≡ fieldsOf η k y
-unfolding fieldsOf
-fields-same θ η h zero y = refl
-fields-same θ η h (suc k) y = rw (h y, fields-same θ η h k (y + 1))
-
-counts-same : (θ η : ℕ → List Item) → ((x : ℕ) → θ x ≡ η x) → (k y : ℕ) → countsOf θ k y ≡ countsOf η k y
-unfolding countsOf
-counts-same θ η h zero y = refl
-counts-same θ η h (suc k) y = rw (h y, counts-same θ η h k (y + 1))
-
 module _ (sig : List ℕ) (a b : List Item) (out₀ : List ℕ) where
-  one-unifier : (θ η : ℕ → List Item) → Unifier sig a b θ → Unifier sig a b η → (x : ℕ) → θ x ≡ η x
-  one-unifier θ η u v = unique (arity sig) a b θ η (u .mgu) (v .mgu) (u .least) (v .least)
+  same-record : (θ η : ℕ → List Item) → Unifier sig a b θ → Unifier sig a b η → recordOf θ ≡ recordOf η
+  unfolding recordOf
+  same-record θ η u v = ap written (one-listing sig a b θ η u v)
 
-  one-record : (θ η : ℕ → List Item) → Unifier sig a b θ → Unifier sig a b η → recordOf θ ≡ recordOf η
-  one-record θ η u v = fields-same θ η (one-unifier θ η u v) 64 0
+  same-count : (θ η : ℕ → List Item) → Unifier sig a b θ → Unifier sig a b η → countOf θ ≡ countOf η
+  unfolding countOf
+  same-count θ η u v = ap length (one-listing sig a b θ η u v)
 
   some-unifier : (θ : ℕ → List Item) → Unifier sig a b θ → Unifies (arity sig) a b
   some-unifier θ u = record { by = θ; sub = u .mgu .sub; same = u .mgu .unifies }
@@ -285,15 +242,15 @@ module _ (sig : List ℕ) (a b : List Item) (out₀ : List ℕ) where
   Coincide out out′ r r′ = (r ≡ r′) × (out ≡ out′)
 
   not-short : (θ η : ℕ → List Item) → Unifier sig a b θ → Unifier sig a b η → Short θ → (y : ℕ) × (y < 64) × (2048 < length (η y)) → ⊥
-  not-short θ η u v s y = omega (arith, s (y .0) (y .1), y .2, ap length (one-unifier θ η u v (y .0)))
+  not-short θ η u v s y = omega (arith, s (y .0) (y .1), y .2, ap length (one-unifier sig a b θ η u v (y .0)))
 
   not-room : (θ η : ℕ → List Item) → Unifier sig a b θ → Unifier sig a b η → length (recordOf θ) ≤ length out₀ → length out₀ < length (recordOf η) → ⊥
-  not-room θ η u v s l = omega (arith, ap length (one-record θ η u v))
+  not-room θ η u v s l = omega (arith, ap length (same-record θ η u v))
 
   pub coincide : (out out′ : List ℕ) (r r′ : Recorded) → Promise sig a b out₀ out r → Promise sig a b out₀ out′ r′ → Coincide out out′ r r′
   coincide out out′ (Written m n) (Written m′ n′) p q =
-      let e = one-record (p .by) (q .by) (p .unifier) (q .unifier) in
-      let f : m ≡ m′ = p .fields ∙ counts-same (p .by) (q .by) (one-unifier (p .by) (q .by) (p .unifier) (q .unifier)) 64 0 ∙ sym (q .fields) in
+      let e = same-record (p .by) (q .by) (p .unifier) (q .unifier) in
+      let f : m ≡ m′ = p .fields ∙ same-count (p .by) (q .by) (p .unifier) (q .unifier) ∙ sym (q .fields) in
       let k : n ≡ n′ = p .bytes ∙ ap length e ∙ sym (q .bytes) in
       (rw (f, k) refl, p .written ∙ ap (λ (x : List ℕ). front x out₀) e ∙ sym (q .written))
   coincide out out′ (Written m n) Nothing p q = absurd (q .0 (some-unifier (p .by) (p .unifier)))
