@@ -11,4 +11,5 @@ pub mod ReadBack
 pub mod Records
 pub mod Relations
 pub mod Spelt
+pub mod Store
 pub mod Trees

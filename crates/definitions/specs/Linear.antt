@@ -8,17 +8,16 @@ use mathlib.Core.Bool.{Bool, true, false}
 use native.Mathlib.Omega.{arith}
 use native.Mathlib.Decide.{decLe}
 use borrow.Author.Tests.{le-leb, lt-leb, le-ltb, lt-ltb}
-use lib.Dec.{leb, ltb, eqb}
 use Rattle.laws.specs.Choice.{pick}
 use Rattle.laws.specs.Members.{NoDup}
 use Rattle.laws.specs.Members as Members
-use Rattle.keys.specs.Keys.{Tm}
 use Rattle.terms.specs.Terms.{numbers, Signed, refusal}
-use Rattle.theory.specs.Flat.{Item, sy, va, Terms}
+use Rattle.theory.specs.Flat.{Item}
 use Rattle.theory.specs.Subst.{vars, app, app-vars, In, Sub}
-use Rattle.theory.specs.Items.{item16, items16, items, arity, shift, codes-numbers}
-use Rattle.theory.specs.Relations.{Turns, Renames, Unifies, Instance, Variant, Unifiable}
-use Rattle.definitions.specs.Trees.{itemsT, Shaped, treeOf}
+use Rattle.theory.specs.Items.{items16, items, arity, shift, codes-numbers}
+use Rattle.theory.specs.Relations.{Instance, Variant, Unifiable}
+use Rattle.definitions.specs.Trees.{treeOf}
+use Rattle.definitions.specs.Relations.{Stands}
 use Rattle.definitions.specs.Candidates.{isVariable, agree, candidate, isCandidate}
 use Rattle.definitions.specs.Spelt.{clash, tree-shaped, tree-spells}
 use Rattle.definitions.specs.LinearFlat.{Cand, done, Lin, lin-instance, lin-variant, lin-unify, cand-shift, lin-shift, shift-apart, Below}
@@ -32,10 +31,6 @@ variables (x ∷ xs) = pick (isVariable x) (x ∷ variables xs) (variables xs)
 -- no repeated variable
 abbrev pub Linear : List ℕ → Type 0
 Linear t = NoDup (variables (numbers t))
-
--- the stored term t answers the question q in relation r
-abbrev pub Answer : List ℕ → ℕ → List ℕ → List ℕ → Type 0
-Answer sig r q t = pick (eqb r 0) (t ≡ q) (pick (eqb r 1) (Variant q t) (pick (eqb r 2) (Instance sig q t) (pick (eqb r 3) (Instance sig t q) (Unifiable sig t q))))
 
 -- the same of items
 in-variables : (y : ℕ) (xs : List ℕ) → In y (items16 xs) → Members.In (32768 + y) (variables xs)
@@ -110,7 +105,7 @@ module _ (sig : List ℕ) (g : Signed sig) where
     equal-candidate e = same q t p h false false vars vars (λ x. tt) (λ x. tt) (λ e x. (x, refl)) (λ e x. (x, refl)) (rw e)
 
     -- every answer is a candidate
-    pub answer-candidate : (r : ℕ) → r ≤ 4 → Answer sig r q t → isCandidate sig r q t ≡ true
+    pub answer-candidate : (r : ℕ) → r ≤ 4 → Stands sig r t q → isCandidate sig r q t ≡ true
     answer-candidate zero l a = equal-candidate a
     answer-candidate (suc zero) l a = variant-candidate a
     answer-candidate (suc (suc zero)) l a = instance-candidate a
@@ -139,7 +134,7 @@ module _ (sig : List ℕ) (g : Signed sig) where
         record { by = u .by; sub = u .sub; same = u .same }
 
     -- 'Where q and t have no repeated variable, candidate and answer agree for relations 1 to 4'
-    pub linear-exact : Linear q → Linear t → (r : ℕ) → 1 ≤ r → r ≤ 4 → (isCandidate sig r q t ≡ true) ↔ Answer sig r q t
+    pub linear-exact : Linear q → Linear t → (r : ℕ) → 1 ≤ r → r ≤ 4 → (isCandidate sig r q t ≡ true) ↔ Stands sig r t q
     linear-exact l m zero a b = absurd (omega arith)
     linear-exact l m (suc zero) a b = (variant-linear l, variant-candidate)
     linear-exact l m (suc (suc zero)) a b = (instance-linear l, instance-candidate)
