@@ -12,10 +12,12 @@ use terms::item;
 use walks::label_of;
 ghost use mathlib.Core.Path.{_≡_};
 ghost use Prim.Native.Nat.{ℕ, _+_, _-_, _*_, _/_, _≤_, _<_};
-ghost use lib.ListN.{length, getD};
+ghost use lib.ListN.{length, getD, take};
 ghost use Rattle.terms.specs.Terms.{Signed};
-ghost use Rattle.walks.specs.Fill.{Sized};
+ghost use Rattle.walks.specs.Fill.{Sized, tables};
 ghost use Rattle.store.specs.Opening.{Cleared};
+ghost use Rattle.store.specs.Calls.{openOutcome, opening, insertOutcome, inserting, deleteOutcome, deleting, keyListing, asking};
+ghost use Rattle.store.specs.Tables.{held, Outlined, roomFor, withKeys, withoutKeys, withoutTerm, endNumber, keyNumber};
 
 pub enum Opened {
     Open,
@@ -68,7 +70,9 @@ pub fn open(
     s2: &mut [u64],
     s3: &mut [u64],
     sig: &[u8],
-) -> Opened {
+) -> Opened
+    ensures { λ r. ⌜ openOutcome r (held (now (bytes .exit)) (now (used .exit)) (now (label .exit)) (now (link .exit)) (now (s0 .exit)) (now (s1 .exit)) (now (s2 .exit)) (now (s3 .exit))) ≡ opening (held (now (bytes .entry)) (now (used .entry)) (now (label .entry)) (now (link .entry)) (now (s0 .entry)) (now (s1 .entry)) (now (s2 .entry)) (now (s3 .entry))) (now (sig .entry)) ⌝ }
+{
     if !long_enough(bytes, used, label, link, s0, s1, s2, s3) {
         return Opened::Refused(Refusal::Table);
     }
@@ -92,7 +96,7 @@ pub struct Outline {
 // The outline of a checked term.
 fn outline_of(sig: &[u8], t: &[u8]) -> Outline
     requires { ⌜ Signed (now sig) × (length (now t) ≤ 64) ⌝ }
-    ensures { λ r. ⌜ r .items ≤ 32 ⌝ }
+    ensures { λ r. ⌜ Outlined (now (sig .entry)) (now (t .entry)) (r .items) (r .ups) (r .ends) ⌝ }
 {
     let mut items = [0u16; 32];
     let mut ups = [0u8; 32];
@@ -111,6 +115,7 @@ fn outline_of(sig: &[u8], t: &[u8]) -> Outline
 // Do the keys of a term fit; refusal 12 otherwise. Where a key is free for each item, none need be looked for.
 fn fits(link: &[u16], label: &[u32], o: Outline) -> bool
     requires { ⌜ (8190 ≤ length (now link)) × (4096 ≤ length (now label)) × (o .items ≤ 32) × (length (o .ups) ≡ 32) × (length (o .ends) ≡ 32) ⌝ }
+    ensures { λ r. ⌜ r ≡ roomFor (now (link .entry)) (now (label .entry)) (take (o .items) (o .ups)) (take (o .items) (o .ends)) ⌝ }
 {
     let n = o.items;
     if roomy(link, n) {
@@ -135,6 +140,7 @@ fn add_keys(
     slot: usize,
 )
     requires { ⌜ Sized (now link) (now label) (now s0) (now s1) (now s2) (now s3) × (o .items ≤ 32) × (length (o .ups) ≡ 32) × (length (o .ends) ≡ 32) × (slot < 512) ⌝ }
+    ensures { λ _. ⌜ tables (now (link .exit)) (now (label .exit)) (now (s0 .exit)) (now (s1 .exit)) (now (s2 .exit)) (now (s3 .exit)) ≡ withKeys (tables (now (link .entry)) (now (label .entry)) (now (s0 .entry)) (now (s1 .entry)) (now (s2 .entry)) (now (s3 .entry))) (take (o .items) (o .ups)) (take (o .items) (o .ends)) slot ⌝ }
 {
     let n = o.items;
     let ups = o.ups;
@@ -166,6 +172,7 @@ fn drop_keys(
     slot: usize,
 )
     requires { ⌜ Sized (now link) (now label) (now s0) (now s1) (now s2) (now s3) × (o .items ≤ 32) × (length (o .ups) ≡ 32) × (length (o .ends) ≡ 32) × (slot < 512) ⌝ }
+    ensures { λ _. ⌜ tables (now (link .exit)) (now (label .exit)) (now (s0 .exit)) (now (s1 .exit)) (now (s2 .exit)) (now (s3 .exit)) ≡ withoutKeys (tables (now (link .entry)) (now (label .entry)) (now (s0 .entry)) (now (s1 .entry)) (now (s2 .entry)) (now (s3 .entry))) (take (o .items) (o .ups)) (take (o .items) (o .ends)) slot ⌝ }
 {
     let n = o.items;
     let ups = o.ups;
@@ -186,7 +193,9 @@ pub fn insert(
     s2: &mut [u64],
     s3: &mut [u64],
     t: &[u8],
-) -> Inserted {
+) -> Inserted
+    ensures { λ r. ⌜ insertOutcome r (held (now (bytes .exit)) (now (used .exit)) (now (label .exit)) (now (link .exit)) (now (s0 .exit)) (now (s1 .exit)) (now (s2 .exit)) (now (s3 .exit))) ≡ inserting (held (now (bytes .entry)) (now (used .entry)) (now (label .entry)) (now (link .entry)) (now (s0 .entry)) (now (s1 .entry)) (now (s2 .entry)) (now (s3 .entry))) (now (t .entry)) ⌝ }
+{
     if !long_enough(bytes, used, label, link, s0, s1, s2, s3) {
         return Inserted::Refused(Refusal::Table);
     }
@@ -222,6 +231,7 @@ fn drop_term(
     slot: usize,
 )
     requires { ⌜ Sized (now link) (now label) (now s0) (now s1) (now s2) (now s3) × (33538 ≤ length (now bytes)) × (slot < 512) ⌝ }
+    ensures { λ _. ⌜ tables (now (link .exit)) (now (label .exit)) (now (s0 .exit)) (now (s1 .exit)) (now (s2 .exit)) (now (s3 .exit)) ≡ withoutTerm (tables (now (link .entry)) (now (label .entry)) (now (s0 .entry)) (now (s1 .entry)) (now (s2 .entry)) (now (s3 .entry))) (now (bytes .entry)) slot ⌝ }
 {
     let sig = layout::signature(bytes);
     let t = layout::term(bytes, slot);
@@ -243,7 +253,9 @@ pub fn delete(
     s2: &mut [u64],
     s3: &mut [u64],
     slot: usize,
-) -> Deleted {
+) -> Deleted
+    ensures { λ r. ⌜ deleteOutcome r (held (now (bytes .exit)) (now (used .exit)) (now (label .exit)) (now (link .exit)) (now (s0 .exit)) (now (s1 .exit)) (now (s2 .exit)) (now (s3 .exit))) ≡ deleting (held (now (bytes .entry)) (now (used .entry)) (now (label .entry)) (now (link .entry)) (now (s0 .entry)) (now (s1 .entry)) (now (s2 .entry)) (now (s3 .entry))) slot ⌝ }
+{
     if !long_enough(bytes, used, label, link, s0, s1, s2, s3) {
         return Deleted::Refused(Refusal::Table);
     }
@@ -256,13 +268,16 @@ pub fn delete(
 }
 
 // The end of a key as its label has it: the star is 256.
-fn end_number(e: usize) -> u16 {
+fn end_number(e: usize) -> u16
+    ensures { λ r. ⌜ r ≡ endNumber e ⌝ }
+{
     if e < 256 { low16(e) } else { 256 }
 }
 
 // The key that the bytes of a key name, or 4096.
 fn key_number(link: &[u16], label: &[u32], key: &[u8]) -> usize
     requires { ⌜ (8190 ≤ length (now link)) × (4096 ≤ length (now label)) ⌝ }
+    ensures { λ r. ⌜ r ≡ keyNumber (now (link .entry)) (now (label .entry)) (now (key .entry)) ⌝ }
 {
     let mut place: u32 = 32776;
     let mut rest = key;
@@ -289,7 +304,9 @@ pub fn with_key(
     s3: &[u64],
     key: &[u8],
     out: &mut [u8],
-) -> Listed {
+) -> Listed
+    ensures { λ r. ⌜ keyListing r (now (out .exit)) ≡ asking (held (now (bytes .entry)) (now (used .entry)) (now (label .entry)) (now (link .entry)) (now (s0 .entry)) (now (s1 .entry)) (now (s2 .entry)) (now (s3 .entry))) (now (key .entry)) (now (out .entry)) ⌝ }
+{
     if !long_enough(bytes, used, label, link, s0, s1, s2, s3) {
         return Listed::Refused(Refusal::Table);
     }

@@ -4,6 +4,7 @@ use native.Mathlib.Omega.{arith}
 use borrow.Author.Needs.{needs}
 use lib.ListN.{length, take}
 use lib.Seq.{length-take-le}
+use Rattle.store.proofs.Parts.{keys-added}
 use Rattle.store.proofs.add_keys.Statement.{statement}
 use Rattle.store.proofs.add_keys.Tie as tie
 
@@ -47,7 +48,7 @@ same-length-6 : tie.Need-same-length-6
 same-length-6 c = search needs
 
 returns : tie.Need-returns
-returns c = search needs
+returns c = keys-added _ _ _ _ _ _ ((c .before .before .before .before .before .before .before .before .before .before .before .before .before .insert-all) .ensures)
 
 pub add-keys-spec : {M : Type 1} → statement M
 add-keys-spec =

@@ -9,6 +9,8 @@ use Rattle.layout.proofs.Laws.{long, signature-good, in-use-small}
 use Rattle.terms.specs.Terms.{Signed}
 use Rattle.terms.proofs.Laws.{checked-good, checked-signed}
 use Rattle.store.proofs.Laws.{sized}
+use mathlib.Core.Bool.{true, false}
+use Rattle.store.proofs.Public.{fair, delete-short, delete-none, delete-done}
 use Rattle.store.proofs.delete.Statement.{statement}
 use Rattle.store.proofs.delete.Tie as tie
 
@@ -40,7 +42,7 @@ same-length-8 : tie.Need-same-length-8
 same-length-8 c = search needs
 
 returns : tie.Need-returns
-returns c = search needs
+returns c = delete-short _ _ (fair _ ((c .before .long-enough) .result) false ((c .before .long-enough) .ensures) (not-true ((c .before .long-enough) .result) ((c .if1) .taken)))
 
 in-use-requires : tie.Need-in-use-requires
 in-use-requires c κs = let L = long _ _ _ _ _ _ _ _ (sym ((c .before .before .long-enough) .ensures) ∙ not-false ((c .before .before .long-enough) .result) ((c .before .if1) .left)) in
@@ -71,7 +73,7 @@ same-length-16 : tie.Need-same-length-16
 same-length-16 c = search needs
 
 returns-2 : tie.Need-returns-2
-returns-2 c = search needs
+returns-2 c = delete-none _ _ _ (fair _ ((c .before .before .before .before .long-enough) .result) true ((c .before .before .before .before .long-enough) .ensures) (not-false ((c .before .before .before .before .long-enough) .result) ((c .before .before .before .if1) .left))) ((c .before .in-use) .ensures) (not-true ((c .before .in-use) .result) ((c .if2) .taken))
 
 drop-term-requires : tie.Need-drop-term-requires
 drop-term-requires c κs = let L = long _ _ _ _ _ _ _ _ (sym ((c .before .before .before .before .before .before .before .before .before .before .before .long-enough) .ensures) ∙ not-false ((c .before .before .before .before .before .before .before .before .before .before .before .long-enough) .result) ((c .before .before .before .before .before .before .before .before .before .before .if1) .left)) in
@@ -113,7 +115,7 @@ same-length-24 : tie.Need-same-length-24
 same-length-24 c = search needs
 
 returns-3 : tie.Need-returns-3
-returns-3 c = search needs
+returns-3 c = delete-done _ _ _ _ _ _ _ _ _ _ _ _ (fair _ ((c .before .before .before .before .before .before .before .before .before .before .before .before .before .before .before .before .before .before .before .before .before .before .before .before .before .before .before .before .before .before .before .long-enough) .result) true ((c .before .before .before .before .before .before .before .before .before .before .before .before .before .before .before .before .before .before .before .before .before .before .before .before .before .before .before .before .before .before .before .long-enough) .ensures) (not-false ((c .before .before .before .before .before .before .before .before .before .before .before .before .before .before .before .before .before .before .before .before .before .before .before .before .before .before .before .before .before .before .before .long-enough) .result) ((c .before .before .before .before .before .before .before .before .before .before .before .before .before .before .before .before .before .before .before .before .before .before .before .before .before .before .before .before .before .before .if1) .left))) ((c .before .before .before .before .before .before .before .before .before .before .before .before .before .before .before .before .before .before .before .before .before .before .before .before .before .before .before .before .in-use) .ensures) (not-false ((c .before .before .before .before .before .before .before .before .before .before .before .before .before .before .before .before .before .before .before .before .before .before .before .before .before .before .before .before .in-use) .result) ((c .before .before .before .before .before .before .before .before .before .before .before .before .before .before .before .before .before .before .before .before .before .before .before .before .before .before .before .if2) .left)) ((c .before .before .before .before .before .before .before .before .before .before .before .before .before .before .before .before .before .before .before .drop-term) .ensures) ((c .before .before .before .before .slots-used) .ensures) ((c .before .before .before .remove) .ensures) ((c .before .before .put-used) .ensures)
 
 pub delete-spec : {M : Type 1} → statement M
 delete-spec =

@@ -1,6 +1,8 @@
 use mathlib.Core.Path.{_≡_}
 use Rattle.layout.proofs.Laws.{signature-good}
 use borrow.Author.Needs.{needs}
+use borrow.Author.Tests.{not-true, not-false}
+use Rattle.store.proofs.Parts.{term-none, term-dropped}
 use Rattle.store.proofs.drop_term.Statement.{statement}
 use Rattle.store.proofs.drop_term.Tie as tie
 
@@ -14,7 +16,7 @@ is-term-requires : tie.Need-is-term-requires
 is-term-requires c κs = search needs
 
 returns : tie.Need-returns
-returns c = search needs
+returns c = term-none _ _ _ _ _ _ ((c .before .before .before .signature) .ensures) ((c .before .before .term) .ensures .0) ((c .before .is-term) .ensures) (not-true ((c .before .is-term) .result) ((c .if1) .taken))
 
 outline-of-requires : tie.Need-outline-of-requires
 outline-of-requires c κs = (rw ((c .before .before .before .signature) .ensures) (signature-good _), (c .before .before .term) .ensures .1)
@@ -41,7 +43,7 @@ same-length-6 : tie.Need-same-length-6
 same-length-6 c = search needs
 
 returns-2 : tie.Need-returns-2
-returns-2 c = search needs
+returns-2 c = term-dropped _ _ _ _ _ _ _ _ _ _ ((c .before .before .before .before .before .before .before .before .before .before .before .before .before .before .before .before .before .before .before .before .before .before .before .signature) .ensures) ((c .before .before .before .before .before .before .before .before .before .before .before .before .before .before .before .before .before .before .before .before .before .before .term) .ensures .0) ((c .before .before .before .before .before .before .before .before .before .before .before .before .before .before .before .before .before .before .before .before .before .is-term) .ensures) (not-false ((c .before .before .before .before .before .before .before .before .before .before .before .before .before .before .before .before .before .before .before .before .before .is-term) .result) ((c .before .before .before .before .before .before .before .before .before .before .before .before .before .before .before .before .before .before .before .before .if1) .left)) ((c .before .before .before .before .before .before .before .before .before .before .before .before .before .before .before .before .before .before .before .outline-of) .ensures) ((c .before .before .before .before .before .before .before .before .before .before .before .before .drop-keys) .ensures)
 
 pub drop-term-spec : {M : Type 1} → statement M
 drop-term-spec =

@@ -4,6 +4,7 @@ use native.Mathlib.Omega.{arith}
 use borrow.Author.Needs.{needs}
 use lib.ListN.{length, take}
 use lib.Seq.{length-take-le}
+use Rattle.store.proofs.Parts.{room-early, room-late}
 use Rattle.store.proofs.fits.Statement.{statement}
 use Rattle.store.proofs.fits.Tie as tie
 
@@ -11,7 +12,7 @@ roomy-requires : tie.Need-roomy-requires
 roomy-requires c κs = search needs
 
 returns : tie.Need-returns
-returns c = search needs
+returns c = room-early _ _ _ _ _ _ (length-take-le ((c .before .before .before .before) .args .o .items) ((c .before .before .before .before) .args .o .ups) (omega (arith, (c .before .before .before .before) .pre .2, (c .before .before .before .before) .pre .3))) ((c .before .roomy) .ensures) ((c .if1) .taken)
 
 array-share-prefix-ups : tie.Need-array-share-prefix-ups
 array-share-prefix-ups c = search needs
@@ -47,7 +48,7 @@ roomy-requires-2 : tie.Need-roomy-requires-2
 roomy-requires-2 c κs = search needs
 
 returns-2 : tie.Need-returns-2
-returns-2 c = search needs
+returns-2 c = room-late _ _ _ _ _ _ _ _ (length-take-le ((c .before .before .before .before .before .before .before .before .before .before .before .before .before .before) .args .o .items) ((c .before .before .before .before .before .before .before .before .before .before .before .before .before .before) .args .o .ups) (omega (arith, (c .before .before .before .before .before .before .before .before .before .before .before .before .before .before) .pre .2, (c .before .before .before .before .before .before .before .before .before .before .before .before .before .before) .pre .3))) ((c .before .before .before .before .locate) .ensures) ((c .before .missing) .ensures .0) ((c .roomy2) .ensures)
 
 pub fits-spec : {M : Type 1} → statement M
 fits-spec =

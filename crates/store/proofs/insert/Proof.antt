@@ -6,6 +6,9 @@ use borrow.Author.Tests.{not-false}
 use Rattle.layout.proofs.Laws.{long, signature-good}
 use Rattle.terms.proofs.Laws.{checked-good}
 use Rattle.store.proofs.Laws.{sized}
+use mathlib.Core.Bool.{true, false}
+use borrow.Author.Tests.{not-true}
+use Rattle.store.proofs.Public.{fair, free-slot, insert-short, insert-bad, insert-full, insert-crowded, insert-done}
 use Rattle.store.proofs.insert.Statement.{statement}
 use Rattle.store.proofs.insert.Tie as tie
 
@@ -37,7 +40,7 @@ same-length-8 : tie.Need-same-length-8
 same-length-8 c = search needs
 
 returns : tie.Need-returns
-returns c = search needs
+returns c = insert-short _ _ (fair _ ((c .before .long-enough) .result) false ((c .before .long-enough) .ensures) (not-true ((c .before .long-enough) .result) ((c .if1) .taken)))
 
 signature-requires : tie.Need-signature-requires
 signature-requires c κs = let L = long _ _ _ _ _ _ _ _ (sym ((c .before .before .long-enough) .ensures) ∙ not-false ((c .before .before .long-enough) .result) ((c .before .if1) .left)) in
@@ -74,7 +77,7 @@ same-length-16 : tie.Need-same-length-16
 same-length-16 c = search needs
 
 returns-2 : tie.Need-returns-2
-returns-2 c = search needs
+returns-2 c = insert-bad _ _ _ _ _ (fair _ ((c .before .before .before .before .before .before .before .long-enough) .result) true ((c .before .before .before .before .before .before .before .long-enough) .ensures) (not-false ((c .before .before .before .before .before .before .before .long-enough) .result) ((c .before .before .before .before .before .before .if1) .left))) ((c .before .before .before .before .signature) .ensures) ((c .before .before .before .check) .ensures) ((c .before .checked) .given .1)
 
 enum-told : tie.Need-enum-told
 enum-told c = search needs
@@ -114,14 +117,14 @@ same-length-24 : tie.Need-same-length-24
 same-length-24 c = search needs
 
 returns-3 : tie.Need-returns-3
-returns-3 c = search needs
+returns-3 c = insert-full _ _ _ _ _ (fair _ ((c .before .before .before .before .before .before .before .before .before .before .before .long-enough) .result) true ((c .before .before .before .before .before .before .before .before .before .before .before .long-enough) .ensures) (not-false ((c .before .before .before .before .before .before .before .before .before .before .before .long-enough) .result) ((c .before .before .before .before .before .before .before .before .before .before .if1) .left))) ((c .before .before .before .before .before .before .before .before .signature) .ensures) ((c .before .before .before .before .before .before .before .check) .ensures) ((c .before .before .before .before .before .enum-told) .given .1) (free-slot _ _ _ _ ((c .before .before .before .slots-used) .ensures) ((c .before .before .complement) .ensures) ((c .before .least) .ensures)) ((c .if2) .taken)
 
 outline-of-requires : tie.Need-outline-of-requires
 outline-of-requires c κs = (rw ((c .before .before .before .before .before .before .before .before .signature) .ensures) (signature-good _), checked-good _ _ _ ((c .before .before .before .before .before .before .before .check) .ensures) ((c .before .before .before .before .before .enum-told) .given .1) .short)
 
 fits-requires : tie.Need-fits-requires
 fits-requires c κs = let L = long _ _ _ _ _ _ _ _ (sym ((c .before .before .before .before .before .before .before .before .before .before .before .before .before .before .long-enough) .ensures) ∙ not-false ((c .before .before .before .before .before .before .before .before .before .before .before .before .before .before .long-enough) .result) ((c .before .before .before .before .before .before .before .before .before .before .before .before .before .if1) .left)) in
-    (L .links, L .labels, (c .before .before .outline-of) .ensures, search needs, search needs)
+    (L .links, L .labels, (c .before .before .outline-of) .ensures .few, search needs, search needs)
 
 same-length-25 : tie.Need-same-length-25
 same-length-25 c = search needs
@@ -148,11 +151,11 @@ same-length-32 : tie.Need-same-length-32
 same-length-32 c = search needs
 
 returns-4 : tie.Need-returns-4
-returns-4 c = search needs
+returns-4 c = insert-crowded _ _ _ _ _ _ _ _ _ (fair _ ((c .before .before .before .before .before .before .before .before .before .before .before .before .before .before .before .before .long-enough) .result) true ((c .before .before .before .before .before .before .before .before .before .before .before .before .before .before .before .before .long-enough) .ensures) (not-false ((c .before .before .before .before .before .before .before .before .before .before .before .before .before .before .before .before .long-enough) .result) ((c .before .before .before .before .before .before .before .before .before .before .before .before .before .before .before .if1) .left))) ((c .before .before .before .before .before .before .before .before .before .before .before .before .before .signature) .ensures) ((c .before .before .before .before .before .before .before .before .before .before .before .before .check) .ensures) ((c .before .before .before .before .before .before .before .before .before .before .enum-told) .given .1) (free-slot _ _ _ _ ((c .before .before .before .before .before .before .before .before .slots-used) .ensures) ((c .before .before .before .before .before .before .before .complement) .ensures) ((c .before .before .before .before .before .before .least) .ensures)) ((c .before .before .before .before .before .if2) .left) ((c .before .before .before .before .outline-of) .ensures) ((c .before .fits2) .ensures) (not-true ((c .before .fits2) .result) ((c .if3) .taken))
 
 add-keys-requires : tie.Need-add-keys-requires
 add-keys-requires c κs = let L = long _ _ _ _ _ _ _ _ (sym ((c .before .before .before .before .before .before .before .before .before .before .before .before .before .before .before .before .before .before .before .before .before .before .long-enough) .ensures) ∙ not-false ((c .before .before .before .before .before .before .before .before .before .before .before .before .before .before .before .before .before .before .before .before .before .before .long-enough) .result) ((c .before .before .before .before .before .before .before .before .before .before .before .before .before .before .before .before .before .before .before .before .before .if1) .left)) in
-    (sized _ _ _ _ _ _ _ _ L, (c .before .before .before .before .before .before .before .before .before .before .outline-of) .ensures, search needs, search needs, (c .before .before .before .before .before .before .before .before .before .before .before .if2) .left)
+    (sized _ _ _ _ _ _ _ _ L, (c .before .before .before .before .before .before .before .before .before .before .outline-of) .ensures .few, search needs, search needs, (c .before .before .before .before .before .before .before .before .before .before .before .if2) .left)
 
 put-term-requires : tie.Need-put-term-requires
 put-term-requires c κs = let L = long _ _ _ _ _ _ _ _ (sym ((c .before .before .before .before .before .before .before .before .before .before .before .before .before .before .before .before .before .before .before .before .before .before .before .before .before .before .before .before .before .before .before .before .before .before .before .before .long-enough) .ensures) ∙ not-false ((c .before .before .before .before .before .before .before .before .before .before .before .before .before .before .before .before .before .before .before .before .before .before .before .before .before .before .before .before .before .before .before .before .before .before .before .before .long-enough) .result) ((c .before .before .before .before .before .before .before .before .before .before .before .before .before .before .before .before .before .before .before .before .before .before .before .before .before .before .before .before .before .before .before .before .before .before .before .if1) .left)) in
@@ -190,7 +193,7 @@ same-length-40 : tie.Need-same-length-40
 same-length-40 c = search needs
 
 returns-5 : tie.Need-returns-5
-returns-5 c = search needs
+returns-5 c = insert-done _ _ _ _ _ _ _ _ _ _ _ _ _ _ _ _ _ _ _ (fair _ ((c .before .before .before .before .before .before .before .before .before .before .before .before .before .before .before .before .before .before .before .before .before .before .before .before .before .before .before .before .before .before .before .before .before .before .before .before .before .before .before .before .before .before .before .before .long-enough) .result) true ((c .before .before .before .before .before .before .before .before .before .before .before .before .before .before .before .before .before .before .before .before .before .before .before .before .before .before .before .before .before .before .before .before .before .before .before .before .before .before .before .before .before .before .before .before .long-enough) .ensures) (not-false ((c .before .before .before .before .before .before .before .before .before .before .before .before .before .before .before .before .before .before .before .before .before .before .before .before .before .before .before .before .before .before .before .before .before .before .before .before .before .before .before .before .before .before .before .before .long-enough) .result) ((c .before .before .before .before .before .before .before .before .before .before .before .before .before .before .before .before .before .before .before .before .before .before .before .before .before .before .before .before .before .before .before .before .before .before .before .before .before .before .before .before .before .before .before .if1) .left))) ((c .before .before .before .before .before .before .before .before .before .before .before .before .before .before .before .before .before .before .before .before .before .before .before .before .before .before .before .before .before .before .before .before .before .before .before .before .before .before .before .before .before .signature) .ensures) ((c .before .before .before .before .before .before .before .before .before .before .before .before .before .before .before .before .before .before .before .before .before .before .before .before .before .before .before .before .before .before .before .before .before .before .before .before .before .before .before .before .check) .ensures) ((c .before .before .before .before .before .before .before .before .before .before .before .before .before .before .before .before .before .before .before .before .before .before .before .before .before .before .before .before .before .before .before .before .before .before .before .before .before .before .enum-told) .given .1) (free-slot _ _ _ _ ((c .before .before .before .before .before .before .before .before .before .before .before .before .before .before .before .before .before .before .before .before .before .before .before .before .before .before .before .before .before .before .before .before .before .before .before .before .slots-used) .ensures) ((c .before .before .before .before .before .before .before .before .before .before .before .before .before .before .before .before .before .before .before .before .before .before .before .before .before .before .before .before .before .before .before .before .before .before .before .complement) .ensures) ((c .before .before .before .before .before .before .before .before .before .before .before .before .before .before .before .before .before .before .before .before .before .before .before .before .before .before .before .before .before .before .before .before .before .before .least) .ensures)) ((c .before .before .before .before .before .before .before .before .before .before .before .before .before .before .before .before .before .before .before .before .before .before .before .before .before .before .before .before .before .before .before .before .before .if2) .left) ((c .before .before .before .before .before .before .before .before .before .before .before .before .before .before .before .before .before .before .before .before .before .before .before .before .before .before .before .before .before .before .before .before .outline-of) .ensures) ((c .before .before .before .before .before .before .before .before .before .before .before .before .before .before .before .before .before .before .before .before .before .before .before .before .before .before .before .before .before .fits2) .ensures) (not-false ((c .before .before .before .before .before .before .before .before .before .before .before .before .before .before .before .before .before .before .before .before .before .before .before .before .before .before .before .before .before .fits2) .result) ((c .before .before .before .before .before .before .before .before .before .before .before .before .before .before .before .before .before .before .before .before .before .before .before .before .before .before .before .before .if3) .left)) ((c .before .before .before .before .before .before .before .before .before .before .before .before .before .before .before .before .before .before .before .before .before .add-keys) .ensures) ((c .before .before .before .before .before .before .before .put-term) .ensures) ((c .before .before .before .before .before .before .before .before .before .before .before .before .before .before .before .before .before .before .before .before .before .before .before .before .before .before .before .before .before .before .before .before .before .before .before .before .slots-used) .ensures) ((c .before .before .before .insert) .ensures) ((c .before .before .put-used) .ensures)
 
 pub insert-spec : {M : Type 1} → statement M
 insert-spec =

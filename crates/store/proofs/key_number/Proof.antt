@@ -5,17 +5,20 @@ use borrow.Author.Needs.{needs}
 use lib.ListN.{length, length-drop}
 use Rattle.laws.proofs.Lists.{tail-part}
 use Rattle.paths.specs.Locate.{find-le}
+use Rattle.chains.specs.Chains.{find}
+use Rattle.store.specs.Tables.{numberFrom, keyNumber}
+use Rattle.store.proofs.Parts.{number-start, number-turn, number-none, number-end}
 use Rattle.store.proofs.key_number.Statement.{statement}
 use Rattle.store.proofs.key_number.Tie as tie
 
 abbrev Inv-loop : tie.InvT-loop
-Inv-loop link label key place₀ rest₀ place rest = place < 33024
+Inv-loop link label key place₀ rest₀ place rest = (place < 33024) × (numberFrom link label place rest ≡ keyNumber link label key)
 
 abbrev μ-loop : tie.MeasureT-loop
 μ-loop link label key place₀ rest₀ place rest = length rest
 
 loop-holds : tie.Need-loop-holds Inv-loop μ-loop
-loop-holds c = omega arith
+loop-holds c = (omega arith, number-start _ _ _)
 
 item-requires : tie.Need-item-requires Inv-loop μ-loop
 item-requires c κs = omega arith
@@ -48,10 +51,10 @@ loop-less : tie.Need-loop-less Inv-loop μ-loop
 loop-less c = let l = (c .before .before .before .before .before .before .before .before .loop) in rw tail-part (omega (arith, length-drop 3 (l .rest .now)))
 
 loop-again : tie.Need-loop-again Inv-loop μ-loop
-loop-again c = (c .before .place-of) .ensures .1
+loop-again c = ((c .before .place-of) .ensures .1, rw tail-part (number-turn _ _ _ _ _ _ _ ((c .before .before .before .before .before .before .before .loop-test) .taken) ((c .before .before .before .before .before .low16) .ensures ∙ (c .before .before .before .before .before .before .item) .ensures .0) ((c .before .before .before .find) .ensures ∙ ap (find _ _) ((c .before .before .before .before .label-of) .ensures)) ((c .before .place-of) .ensures .0) ∙ (c .before .before .before .before .before .before .before .before .loop) .inv .1))
 
 returns : tie.Need-returns Inv-loop μ-loop
-returns c = tt
+returns c = number-none _ _ _ _ (omega arith) (λ z. omega arith) ∙ (c .before .before .loop) .inv .1
 
 item-requires-2 : tie.Need-item-requires-2 Inv-loop μ-loop
 item-requires-2 c κs = omega arith
@@ -66,7 +69,7 @@ find-requires-2 : tie.Need-find-requires-2 Inv-loop μ-loop
 find-requires-2 c κs = ((c .before .before .before .before .before .before .before .before .before) .pre .0, (c .before .before .before .before .before .before .before .before .before) .pre .1)
 
 returns-2 : tie.Need-returns-2 Inv-loop μ-loop
-returns-2 c = tt
+returns-2 c = number-end _ _ _ _ _ _ _ _ (omega arith) ((c .before .before .before .item2) .ensures .0) ((c .before .before .end-number) .ensures) ((c .before .label-of2) .ensures) ((c .find2) .ensures) ∙ (c .before .before .before .before .before .before .loop) .inv .1
 
 pub key-number-spec : {M : Type 1} → statement M
 key-number-spec =

@@ -9,6 +9,8 @@ use Rattle.layout.proofs.Laws.{long, signature-good}
 use Rattle.terms.specs.Terms.{Signed}
 use Rattle.terms.proofs.Laws.{checked-good, checked-signed}
 use Rattle.store.proofs.Laws.{sized}
+use Rattle.store.proofs.Public.{fair, open-short, open-bad, open-done}
+use mathlib.Core.Bool.{true, false}
 use Rattle.store.proofs.open.Statement.{statement}
 use Rattle.store.proofs.open.Tie as tie
 
@@ -40,7 +42,7 @@ same-length-8 : tie.Need-same-length-8
 same-length-8 c = search needs
 
 returns : tie.Need-returns
-returns c = search needs
+returns c = open-short _ _ (fair _ ((c .before .long-enough) .result) false ((c .before .long-enough) .ensures) (not-true ((c .before .long-enough) .result) ((c .if1) .taken)))
 
 check-signature-requires : tie.Need-check-signature-requires
 check-signature-requires c κs = search needs
@@ -73,7 +75,7 @@ same-length-16 : tie.Need-same-length-16
 same-length-16 c = search needs
 
 returns-2 : tie.Need-returns-2
-returns-2 c = search needs
+returns-2 c = open-bad _ _ _ _ (fair _ ((c .before .before .before .before .before .long-enough) .result) true ((c .before .before .before .before .before .long-enough) .ensures) (not-false ((c .before .before .before .before .before .long-enough) .result) ((c .before .before .before .before .if1) .left))) ((c .before .before .before .check-signature) .ensures) ((c .before .checked) .given .1)
 
 enum-told : tie.Need-enum-told
 enum-told c = search needs
@@ -116,7 +118,7 @@ same-length-24 : tie.Need-same-length-24
 same-length-24 c = search needs
 
 returns-3 : tie.Need-returns-3
-returns-3 c = search needs
+returns-3 c = open-done _ _ _ _ _ _ _ _ _ _ _ (fair _ ((c .before .before .before .before .before .before .before .before .before .before .before .before .before .before .before .before .before .before .before .before .before .before .before .before .before .before .before .before .before .before .before .long-enough) .result) true ((c .before .before .before .before .before .before .before .before .before .before .before .before .before .before .before .before .before .before .before .before .before .before .before .before .before .before .before .before .before .before .before .long-enough) .ensures) (not-false ((c .before .before .before .before .before .before .before .before .before .before .before .before .before .before .before .before .before .before .before .before .before .before .before .before .before .before .before .before .before .before .before .long-enough) .result) ((c .before .before .before .before .before .before .before .before .before .before .before .before .before .before .before .before .before .before .before .before .before .before .before .before .before .before .before .before .before .before .if1) .left))) ((c .before .before .before .before .before .before .before .before .before .before .before .before .before .before .before .before .before .before .before .before .before .before .before .before .before .before .before .before .before .check-signature) .ensures) ((c .before .before .before .before .before .before .before .before .before .before .before .before .before .before .before .before .before .before .before .before .before .before .before .before .before .before .before .enum-told) .given .1) ((long _ _ _ _ _ _ _ _ (sym ((c .before .before .before .before .before .before .before .before .before .before .before .before .before .before .before .before .before .before .before .before .before .before .before .before .before .before .before .before .before .before .before .long-enough) .ensures) ∙ not-false ((c .before .before .before .before .before .before .before .before .before .before .before .before .before .before .before .before .before .before .before .before .before .before .before .before .before .before .before .before .before .before .before .long-enough) .result) ((c .before .before .before .before .before .before .before .before .before .before .before .before .before .before .before .before .before .before .before .before .before .before .before .before .before .before .before .before .before .before .if1) .left))) .links) ((c .before .before .before .before .before .before .before .before .before .before .before .before .before .before .before .before .before .before .before .before .before .before .before .before .before .put-signature) .ensures) ((c .before .before .before .before .before .before .before .before .before .before .before .before .before .before .before .before .before .before .before .before .before .clear64) .ensures) ((c .before .before .before .before .before .before .before .before .before .before .before .before .clear-index) .ensures)
 
 pub open-spec : {M : Type 1} → statement M
 open-spec =

@@ -8,7 +8,7 @@ use lib.Seq.{length-take-le}
 use Rattle.layout.proofs.Laws.{long, signature-good}
 use Rattle.terms.specs.Terms.{Signed}
 use Rattle.terms.proofs.Laws.{checked-good, checked-signed}
-use Rattle.store.proofs.Laws.{sized}
+use Rattle.store.proofs.Parts.{outlined}
 use Rattle.store.proofs.outline_of.Statement.{statement}
 use Rattle.store.proofs.outline_of.Tie as tie
 
@@ -50,9 +50,7 @@ ups-requires c κs = let d = (c .before .before .before .before .before .before 
     (refl, omega (arith, e, d .ensures .0, (c .before .before .before .before .before .before .before .before .before .before .before .before) .pre .1), omega (arith, e, d .ensures .0, (c .before .before .before .before .before .before .before .before .before .before .before .before) .pre .1), (c .before .before .before .before .before .before .before .before .before .before .before .before) .pre .0 .eight)
 
 returns : tie.Need-returns
-returns c = let d = (c .before .before .before .before .before .before .before .before .before .before .before .decode) in
-    let e = length-take-le (d .result) (d .last .1 .0) (omega (arith, d .ensures .0, d .kept .1 .0, (c .before .before .before .before .before .before .before .before .before .before .before .before .before .before .before) .pre .1)) in
-    omega (arith, (c .before .before .ups2) .ensures .0, e, d .ensures .0, (c .before .before .before .before .before .before .before .before .before .before .before .before .before .before .before) .pre .1)
+returns c = outlined _ _ _ _ _ _ _ _ _ ((c .before .before .before .before .before .before .before .before .before .before .before .before .before .before .before) .pre .1) refl refl ((c .before .before .ups2) .kept .1 .1 .0) ((c .before .before .before .before .before .before .before .before .before .before .before .decode) .ensures .0) ((c .before .before .before .before .before .before .before .before .before .before .before .decode) .ensures .1) ((c .before .before .before .before .before .before .before .ends2) .ensures) ((c .before .before .ups2) .ensures .0) ((c .before .before .ups2) .ensures .1)
 
 pub outline-of-spec : {M : Type 1} → statement M
 outline-of-spec =

@@ -1,7 +1,9 @@
 use mathlib.Core.Path.{_≡_, refl, sym, ap, _∙_}
-use borrow.Author.Tests.{not-false}
+use borrow.Author.Tests.{not-true, not-false}
 use Rattle.layout.proofs.Laws.{long}
 use borrow.Author.Needs.{needs}
+use mathlib.Core.Bool.{true, false}
+use Rattle.store.proofs.Public.{fair, ask-short, ask-bad, ask-room, ask-done}
 use Rattle.store.proofs.with_key.Statement.{statement}
 use Rattle.store.proofs.with_key.Tie as tie
 
@@ -9,7 +11,7 @@ long-enough-requires : tie.Need-long-enough-requires
 long-enough-requires c κs = search needs
 
 returns : tie.Need-returns
-returns c = search needs
+returns c = ask-short _ _ _ (fair _ ((c .before .long-enough) .result) false ((c .before .long-enough) .ensures) (not-true ((c .before .long-enough) .result) ((c .if1) .taken)))
 
 signature-requires : tie.Need-signature-requires
 signature-requires c κs = let L = long _ _ _ _ _ _ _ _ (sym ((c .before .long-enough) .ensures) ∙ not-false ((c .before .long-enough) .result) ((c .if1) .left)) in
@@ -19,7 +21,7 @@ is-key-requires : tie.Need-is-key-requires
 is-key-requires c κs = search needs
 
 returns-2 : tie.Need-returns-2
-returns-2 c = search needs
+returns-2 c = ask-bad _ _ _ _ _ (fair _ ((c .before .before .before .before .long-enough) .result) true ((c .before .before .before .before .long-enough) .ensures) (not-false ((c .before .before .before .before .long-enough) .result) ((c .before .before .before .if1) .left))) ((c .before .before .signature) .ensures) ((c .before .is-key) .ensures) (not-true ((c .before .is-key) .result) ((c .if2) .taken))
 
 key-number-requires : tie.Need-key-number-requires
 key-number-requires c κs = let L = long _ _ _ _ _ _ _ _ (sym ((c .before .before .before .before .long-enough) .ensures) ∙ not-false ((c .before .before .before .before .long-enough) .result) ((c .before .before .before .if1) .left)) in
@@ -40,7 +42,7 @@ mul-if3 : tie.Need-mul-if3
 mul-if3 c = search needs
 
 returns-3 : tie.Need-returns-3
-returns-3 c = search needs
+returns-3 c = ask-room _ _ _ _ _ _ _ _ _ (fair _ ((c .before .before .before .before .before .before .before .before .before .long-enough) .result) true ((c .before .before .before .before .before .before .before .before .before .long-enough) .ensures) (not-false ((c .before .before .before .before .before .before .before .before .before .long-enough) .result) ((c .before .before .before .before .before .before .before .before .if1) .left))) ((c .before .before .before .before .before .before .before .signature) .ensures) ((c .before .before .before .before .before .before .is-key) .ensures) (not-false ((c .before .before .before .before .before .before .is-key) .result) ((c .before .before .before .before .before .if2) .left)) ((c .before .before .before .before .key-number) .ensures) ((c .before .before .before .slots-used) .ensures) ((c .before .before .meet) .ensures) ((c .before .size) .ensures .0) ((c .if3) .taken)
 
 list-requires : tie.Need-list-requires
 list-requires c κs = search needs
@@ -49,7 +51,7 @@ same-length : tie.Need-same-length
 same-length c = search needs
 
 returns-4 : tie.Need-returns-4
-returns-4 c = search needs
+returns-4 c = ask-done _ _ _ _ _ _ _ _ _ _ (fair _ ((c .before .before .before .before .before .before .before .before .before .before .before .before .before .long-enough) .result) true ((c .before .before .before .before .before .before .before .before .before .before .before .before .before .long-enough) .ensures) (not-false ((c .before .before .before .before .before .before .before .before .before .before .before .before .before .long-enough) .result) ((c .before .before .before .before .before .before .before .before .before .before .before .before .if1) .left))) ((c .before .before .before .before .before .before .before .before .before .before .before .signature) .ensures) ((c .before .before .before .before .before .before .before .before .before .before .is-key) .ensures) (not-false ((c .before .before .before .before .before .before .before .before .before .before .is-key) .result) ((c .before .before .before .before .before .before .before .before .before .if2) .left)) ((c .before .before .before .before .before .before .before .before .key-number) .ensures) ((c .before .before .before .before .before .before .before .slots-used) .ensures) ((c .before .before .before .before .before .before .meet) .ensures) ((c .before .before .before .before .before .size) .ensures .0) ((c .before .before .before .before .if3) .left) ((c .before .before .list) .ensures)
 
 pub with-key-spec : {M : Type 1} → statement M
 with-key-spec =
