@@ -1,0 +1,70 @@
+-- Document 01, 'Term bytes': a term as a tree, its items, and the tree that bytes spell.
+use Prim.Native.Nat.{ℕ, zero, suc, _+_, _*_, _≤_, _<_}
+use mathlib.Core.Path.{_≡_}
+use mathlib.Core.Logic.{_⊎_}
+use mathlib.Core.List.{List, [], _∷_, _++_}
+use lib.ListN.{length, getD}
+use Rattle.keys.specs.Keys.{Tm, Args, node, nil, cons}
+use Rattle.terms.specs.Terms.{numbers}
+
+-- how many arguments there are
+unfoldable pub count : Args → ℕ
+count nil = 0
+count (cons t us) = suc (count us)
+
+-- 'one item, followed by the terms of its arguments from left to right'
+unfoldable mutual
+  pub itemsT : Tm → List ℕ
+  itemsT (node x us) = x ∷ itemsA us
+
+  pub itemsA : Args → List ℕ
+  itemsA nil = []
+  itemsA (cons t us) = itemsT t ++ itemsA us
+
+-- 'a value below n is that symbol; 0x8000 + v with v from 0 to 31 is variable v'
+abbrev pub Symbol : List ℕ → ℕ → Type 0
+Symbol sig x = x < length sig
+
+abbrev pub Variable : ℕ → Type 0
+Variable x = (32768 ≤ x) × (x < 32800)
+
+-- a symbol has as many arguments as its arity; a variable has none
+unfoldable mutual
+  pub Shaped : List ℕ → Tm → Type 0
+  Shaped sig (node x us) = ((Symbol sig x × (count us ≡ getD sig x 0)) ⊎ (Variable x × (count us ≡ 0))) × Shapes sig us
+
+  pub Shapes : List ℕ → Args → Type 0
+  Shapes sig nil = Unit {0}
+  Shapes sig (cons t us) = Shaped sig t × Shapes sig us
+
+-- the bytes t are a term: the items of a tree of 1 to 32 items, two bytes an item
+pub record IsTerm (sig t : List ℕ) : Type 0 where
+  pub tree : Tm
+  pub shaped : Shaped sig tree
+  pub spells : numbers t ≡ itemsT tree
+  pub whole : length t ≡ 2 * length (itemsT tree)
+  pub short : length (itemsT tree) ≤ 32
+
+-- the first k trees of a list, and the others
+unfoldable pub firsts : ℕ → Args → Args
+firsts zero us = nil
+firsts (suc k) nil = nil
+firsts (suc k) (cons t us) = cons t (firsts k us)
+
+unfoldable pub others : ℕ → Args → Args
+others zero us = us
+others (suc k) nil = nil
+others (suc k) (cons t us) = others k us
+
+-- items read from the last to the first: each takes its arguments from the trees that follow it
+unfoldable pub forest : List ℕ → List ℕ → Args
+forest sig [] = nil
+forest sig (x ∷ xs) = cons (node x (firsts (getD sig x 0) (forest sig xs))) (others (getD sig x 0) (forest sig xs))
+
+unfoldable pub top : Args → Tm
+top nil = node 0 nil
+top (cons t us) = t
+
+-- the tree that the bytes of a term spell
+unfoldable pub treeOf : List ℕ → List ℕ → Tm
+treeOf sig t = top (forest sig (numbers t))
