@@ -1,1 +1,5 @@
 pub mod Ends
+pub mod Forests
+pub mod Has
+pub mod None
+pub mod Walk
