@@ -14,12 +14,9 @@ use lib.ListN.{length, getD}
 use Rattle.laws.specs.Choice.{pick}
 use Rattle.chains.specs.Chains.{find}
 use Rattle.keys.specs.Keys.{Place, root, step, Key, key, Tm, Args, node, nil, cons, endOf, HasKey, subAt, topOf, down, nth, down-some}
+use Rattle.definitions.specs.Trees.{count}
 use Rattle.paths.specs.Rep.{lab, At, top, kid, Den, Rep, find-den, den-find, find-there}
 use Rattle.paths.specs.Store.{Stored, KeyIn}
-
-abbrev pub count : Args → ℕ
-count nil = 0
-count (cons t us) = suc (count us)
 
 -- every symbol has as many arguments as its arity, at most eight, and is below 256
 unfoldable mutual
@@ -94,7 +91,7 @@ module _ (qv tv : Bool) where
           fro z = rw (u, z)
 
       mutual
-        unfolding walkT Agree Wf subAt nth
+        unfolding walkT Agree Wf subAt nth count
 
         -- slot s is in the result exactly if it is in W and its term at this place agrees
         pub walkT-means : (q : Tm) (n : ℕ) (P : Place) (W : ℕ → Type 0) (v : Tm) → At label n P → subAt P t ≡ some v → Wf ar q → Wf ar v → walkT q n W s ↔ (W s × Agree q v)
