@@ -1,1 +1,6 @@
 pub mod Ends
+pub mod Forests
+pub mod Has
+pub mod Narrow
+pub mod None
+pub mod Walk

@@ -11,9 +11,14 @@ use walks::label_of;
 use walks::place_below;
 ghost use mathlib.Core.Path.{_≡_};
 ghost use Prim.Native.Nat.{ℕ, _+_, _-_, _*_, _/_, _≤_, _<_};
-ghost use lib.ListN.{length, getD};
+ghost use lib.ListN.{length, getD, drop};
+ghost use Rattle.bank.specs.Bank.{four};
+ghost use Rattle.definitions.specs.Candidates.{opens, stars as starsOf};
+ghost use Rattle.definitions.specs.Trees.{forest, others, top, treeOf};
 ghost use Rattle.walks.specs.Fill.{Sized};
-ghost use Rattle.candidates.specs.Ends.{EndsFrom};
+ghost use Rattle.candidates.specs.Ends.{EndsFrom, Ended};
+ghost use Rattle.candidates.specs.Narrow.{Narrowed};
+ghost use Rattle.candidates.specs.Walk.{having, walk};
 
 // Which variables agree with anything at their place: the question's, the stored term's.
 pub struct Rule {
@@ -22,7 +27,9 @@ pub struct Rule {
 }
 
 // The rule of a relation, by its number.
-pub fn rule_of(relation: usize) -> Rule {
+pub fn rule_of(relation: usize) -> Rule
+    ensures { λ r. ⌜ (r .open ≡ opens relation) × (r .stars ≡ starsOf relation) ⌝ }
+{
     if relation == 2 {
         return Rule {
             open: true,
@@ -59,6 +66,7 @@ fn star_at(
     within: SlotSet,
 ) -> SlotSet
     requires { ⌜ Sized (now link) (now label) (now s0) (now s1) (now s2) (now s3) × (place < 40000) ⌝ }
+    ensures { λ r. ⌜ r .words ≡ having (now (link .entry)) (now (label .entry)) (four (now (s0 .entry)) (now (s1 .entry)) (now (s2 .entry)) (now (s3 .entry))) place 256 (within .words) ⌝ }
 {
     let k = find(link, label, label_of(place, 256));
     meet(s0, s1, s2, s3, k, within)
@@ -82,6 +90,7 @@ fn narrow(
 ) -> SlotSet
     requires { ⌜ Sized (now link) (now label) (now s0) (now s1) (now s2) (now s3) ⌝ }
     requires { ⌜ (at < length (now items)) × (length (now items) ≤ at + levels) × (length (now items) ≤ 32) × EndsFrom 0 (length (now items)) (now ends) × (place < 40000) ⌝ }
+    ensures { λ r. ⌜ Narrowed (now (link .entry)) (now (label .entry)) (four (now (s0 .entry)) (now (s1 .entry)) (now (s2 .entry)) (now (s3 .entry))) (rule .open) (rule .stars) (now (items .entry)) (now (ends .entry)) at place (within .words) (r .words) ⌝ }
 {
     if within.is_empty() {
         return within;
@@ -126,8 +135,8 @@ fn narrow(
 
 // Where the term at item i ends, from the ends of later items.
 fn end_after(sig: &[u8], items: &[u16], ends: &[u8; 32], i: usize) -> usize
-    requires { ⌜ (i < length (now items)) × (length (now items) ≤ 32) × EndsFrom (i + 1) (length (now items)) (now ends) ⌝ }
-    ensures { λ r. ⌜ (i < r) × (r ≤ length (now (items .entry))) ⌝ }
+    requires { ⌜ (i < length (now items)) × (length (now items) ≤ 32) × EndsFrom (i + 1) (length (now items)) (now ends) × Ended (i + 1) (now sig) (now items) (now ends) ⌝ }
+    ensures { λ r. ⌜ (i < r) × (r ≤ length (now (items .entry))) × (forest (now (sig .entry)) (drop r (now (items .entry))) ≡ others 1 (forest (now (sig .entry)) (drop i (now (items .entry))))) ⌝ }
 {
     let mut e = i + 1;
     let mut a = arity(sig, wide16(items[i]));
@@ -144,7 +153,7 @@ fn end_after(sig: &[u8], items: &[u16], ends: &[u8; 32], i: usize) -> usize
 // Where the term at each item ends, from the last item to the first.
 fn find_ends(sig: &[u8], items: &[u16], ends: &mut [u8; 32])
     requires { ⌜ (length (now items) ≤ 32) × (length (now ends) ≡ 32) ⌝ }
-    ensures { λ _. ⌜ EndsFrom 0 (length (now (items .entry))) (now (ends .exit)) ⌝ }
+    ensures { λ _. ⌜ EndsFrom 0 (length (now (items .entry))) (now (ends .exit)) × Ended 0 (now (sig .entry)) (now (items .entry)) (now (ends .exit)) ⌝ }
 {
     let mut i = items.len();
     while 0 < i {
@@ -167,6 +176,7 @@ pub fn candidates(
     used: SlotSet,
 ) -> SlotSet
     requires { ⌜ Sized (now link) (now label) (now s0) (now s1) (now s2) (now s3) × (2 ≤ length (now question)) × (length (now question) ≤ 64) ⌝ }
+    ensures { λ r. ⌜ r .words ≡ walk (now (link .entry)) (now (label .entry)) (four (now (s0 .entry)) (now (s1 .entry)) (now (s2 .entry)) (now (s3 .entry))) (opens relation) (starsOf relation) (treeOf (now (sig .entry)) (now (question .entry))) 32776 (used .words) ⌝ }
 {
     let mut items = [0u16; 32];
     let mut ends = [0u8; 32];

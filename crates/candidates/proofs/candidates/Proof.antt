@@ -4,6 +4,8 @@ use native.Mathlib.Omega.{arith}
 use lib.ListN.{length, take}
 use lib.Seq.{length-take-le}
 use borrow.Author.Needs.{needs}
+use Rattle.bank.specs.Bank.{four}
+use Rattle.candidates.proofs.Laws.{candidates-end}
 use Rattle.candidates.proofs.candidates.Statement.{statement}
 use Rattle.candidates.proofs.candidates.Tie as tie
 
@@ -37,10 +39,11 @@ narrow-requires : tie.Need-narrow-requires
 narrow-requires c κs = let d = (c .before .before .before .before .before .before .before .decode) in
     let p = (c .before .before .before .before .before .before .before .before .before .before .before .before .before .before .before .before .before) .pre in
     let e = length-take-le (d .result) (d .last .1 .0) (omega (arith, d .ensures .0, d .kept .1 .0, p .2)) in
-    (p .0, (omega (arith, e, d .ensures .0, p .1), omega (arith, e, d .ensures .0, p .2), omega (arith, e, d .ensures .0, p .2), (c .before .before .before .find-ends) .ensures, omega arith))
+    (p .0, (omega (arith, e, d .ensures .0, p .1), omega (arith, e, d .ensures .0, p .2), omega (arith, e, d .ensures .0, p .2), (c .before .before .before .find-ends) .ensures .0, omega arith))
 
 returns : tie.Need-returns
-returns c = search needs
+returns c = let d = (c .before .before .before .before .before .before .before .before .decode) in let a = (c .before .before .before .before .before .before .before .before .before .before .before .before .before .before .before .before .before .before) .args in
+    candidates-end (a .link .now) (a .label .now) (four (a .s0 .now) (a .s1 .now) (a .s2 .now) (a .s3 .now)) _ _ _ _ (a .sig .now) (a .question .now) (d .last .1 .0) _ (d .result) (a .used .words) _ (d .ensures .0) (d .ensures .1) (omega (arith, d .ensures .0, d .kept .1 .0, (c .before .before .before .before .before .before .before .before .before .before .before .before .before .before .before .before .before .before) .pre .2)) ((c .before .rule-of) .ensures .0) ((c .before .rule-of) .ensures .1) ((c .narrow) .ensures (a .sig .now) ((c .before .before .before .before .find-ends) .ensures .1))
 
 pub candidates-spec : {M : Type 1} → statement M
 candidates-spec =

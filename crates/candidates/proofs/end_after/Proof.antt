@@ -1,12 +1,16 @@
-use Prim.Native.Nat.{_≤_, _-_, _+_, _<_, _*_}
+use Prim.Native.Nat.{ℕ, _≤_, _-_, _+_, _<_, _*_}
+use mathlib.Core.Path.{_≡_, refl, sym, ap, _∙_}
 use native.Mathlib.Omega.{arith}
 use borrow.Author.Needs.{needs}
-use lib.ListN.{length, getD}
+use lib.ListN.{length, getD, drop}
+use Rattle.definitions.specs.Trees.{forest, others}
+use Rattle.candidates.specs.Forests.{forest-end}
+use Rattle.candidates.proofs.Laws.{after-start, after-turn, after-done}
 use Rattle.candidates.proofs.end_after.Statement.{statement}
 use Rattle.candidates.proofs.end_after.Tie as tie
 
 abbrev Inv-loop : tie.InvT-loop
-Inv-loop sig items ends i e₀ a₀ e a = (i < e) × (e ≤ length items)
+Inv-loop sig items ends i e₀ a₀ e a = (i < e) × (e ≤ length items) × (others a (forest sig (drop e items)) ≡ others 1 (forest sig (drop i items)))
 
 abbrev μ-loop : tie.MeasureT-loop
 μ-loop sig items ends i e₀ a₀ e a = a
@@ -27,10 +31,10 @@ arity-requires : tie.Need-arity-requires Inv-loop μ-loop
 arity-requires c κs = search needs
 
 loop-holds : tie.Need-loop-holds Inv-loop μ-loop
-loop-holds c = omega arith
+loop-holds c = (omega arith, omega arith, after-start ((c .before .before .before .before .before) .args .sig .now) ((c .before .before .before .before .before) .args .items .now) ((c .before .before .before .before .before) .args .i) _ (omega arith) ((c .arity) .ensures .0 ∙ ap (λ (x : ℕ). getD ((c .before .before .before .before .before) .args .sig .now) x 0) ((c .before .wide16) .ensures .0)))
 
 returns : tie.Need-returns Inv-loop μ-loop
-returns c = omega arith
+returns c = (omega arith, omega arith, sym (forest-end ((c .before .before .before .before .before .before .before .before) .args .sig .now) ((c .before .before .before .before .before .before .before .before) .args .items .now) ((c .before .before .loop) .e) ((c .before .before .loop) .a) (omega arith)) ∙ (c .before .before .loop) .inv .2)
 
 element-copy-out-wide : tie.Need-element-copy-out-wide Inv-loop μ-loop
 element-copy-out-wide c = omega (arith, (c .before .before .before .before .before .before .before .before) .pre .1)
@@ -46,11 +50,14 @@ loop-less c = omega arith
 
 loop-again : tie.Need-loop-again Inv-loop μ-loop
 loop-again c = let l = (c .before .before .before .before .loop) in
-    let h = (c .before .before .before .before .before .before .before .before .before .before) .pre .2 (l .e) (omega arith) (omega arith) in
-    (omega (arith, h .0, l .inv .0, (c .wide) .ensures .0), omega (arith, h .1, (c .wide) .ensures .0))
+    let h = (c .before .before .before .before .before .before .before .before .before .before) .pre .2 (l .e) (omega arith) (omega arith) in (
+      omega (arith, h .0, l .inv .0, (c .wide) .ensures .0),
+      omega (arith, h .1, (c .wide) .ensures .0),
+      after-turn ((c .before .before .before .before .before .before .before .before .before .before) .args .sig .now) ((c .before .before .before .before .before .before .before .before .before .before) .args .items .now) ((c .before .before .before .before .before .before .before .before .before .before) .args .ends .now) ((c .before .before .before .before .before .before .before .before .before .before) .args .i + 1) (l .a) (l .e) _ _ (omega arith) (omega arith) (omega arith) ((c .before .before .before .before .before .before .before .before .before .before) .pre .3) ((c .wide) .ensures .0) (l .inv .2),
+    )
 
 returns-2 : tie.Need-returns-2 Inv-loop μ-loop
-returns-2 c = omega arith
+returns-2 c = (omega arith, omega arith, after-done ((c .before .before .before .before .before .before .before) .args .sig .now) ((c .before .before .before .before .before .before .before) .args .items .now) ((c .before .loop) .a) ((c .before .loop) .e) _ (omega arith) ((c .before .loop) .inv .2))
 
 pub end-after-spec : {M : Type 1} → statement M
 end-after-spec =
