@@ -8,17 +8,16 @@ use mathlib.Core.Bool.{Bool, true, false}
 use native.Mathlib.Omega.{arith}
 use native.Mathlib.Decide.{decLe}
 use borrow.Author.Tests.{le-leb, lt-leb, le-ltb, lt-ltb}
-use lib.Dec.{leb, ltb, eqb}
+use lib.Dec.{eqb}
 use Rattle.laws.specs.Choice.{pick}
 use Rattle.laws.specs.Members.{NoDup}
 use Rattle.laws.specs.Members as Members
-use Rattle.keys.specs.Keys.{Tm}
 use Rattle.terms.specs.Terms.{numbers, Signed, refusal}
-use Rattle.theory.specs.Flat.{Item, sy, va, Terms}
+use Rattle.theory.specs.Flat.{Item}
 use Rattle.theory.specs.Subst.{vars, app, app-vars, In, Sub}
-use Rattle.theory.specs.Items.{item16, items16, items, arity, shift, codes-numbers}
-use Rattle.theory.specs.Relations.{Turns, Renames, Unifies, Instance, Variant, Unifiable}
-use Rattle.definitions.specs.Trees.{itemsT, Shaped, treeOf}
+use Rattle.theory.specs.Items.{items16, items, arity, shift, codes-numbers}
+use Rattle.theory.specs.Relations.{Instance, Variant, Unifiable}
+use Rattle.definitions.specs.Trees.{treeOf}
 use Rattle.definitions.specs.Candidates.{isVariable, agree, candidate, isCandidate}
 use Rattle.definitions.specs.Spelt.{clash, tree-shaped, tree-spells}
 use Rattle.definitions.specs.LinearFlat.{Cand, done, Lin, lin-instance, lin-variant, lin-unify, cand-shift, lin-shift, shift-apart, Below}
