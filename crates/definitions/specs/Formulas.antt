@@ -1,11 +1,13 @@
 -- Document 001, section 3: the formulas of path indexing, as it writes them. A set of stored terms is a test of slots.
 use Prim.Native.Nat.{ℕ, suc}
+use mathlib.Core.List.{List}
 use mathlib.Core.Bool.{Bool, true, false}
 use mathlib.Core.Option.{Option, some, none}
 use lib.Dec.{eqb}
 use Rattle.laws.specs.Choice.{pick}
 use Rattle.keys.specs.Keys.{Tm, Args, node, nil, cons, Place, root, step, Key, key, endOf, subAt}
-use Rattle.definitions.specs.Candidates.{isVariable, candidate}
+use Rattle.definitions.specs.Trees.{treeOf}
+use Rattle.definitions.specs.Candidates.{isVariable, candidate, isCandidate}
 
 -- what each slot holds
 abbrev pub Held : Type 0
@@ -104,3 +106,15 @@ formula r held q = pick (eqb r 2) (getInstances held root q) (pick (eqb r 3) (ge
 unfoldable pub stays : ℕ → Tm → Option Tm → Bool
 stays r q none = false
 stays r q (some t) = candidate r q t
+
+-- the same of bytes: the terms that slots hold, as trees
+unfoldable pub treeIn : List ℕ → Option (List ℕ) → Option Tm
+treeIn sig none = none
+treeIn sig (some t) = some (treeOf sig t)
+
+abbrev pub trees : List ℕ → (ℕ → Option (List ℕ)) → Held
+trees sig stored s = treeIn sig (stored s)
+
+unfoldable pub staysBytes : List ℕ → ℕ → List ℕ → Option (List ℕ) → Bool
+staysBytes sig r q none = false
+staysBytes sig r q (some t) = isCandidate sig r q t

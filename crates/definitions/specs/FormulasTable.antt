@@ -1,5 +1,5 @@
 -- The formulas of document 001 and the table of document 01 give the same candidates. One formula with two switches serves the proof.
-use Prim.Native.Nat.{ℕ, zero, suc, _+_, _≤_, _<_}
+use Prim.Native.Nat.{ℕ, suc, _+_, _<_}
 use mathlib.Core.Path.{_≡_, refl, sym, ap, _∙_}
 use mathlib.Core.Logic.{_⊎_, inl, inr, _↔_}
 use mathlib.Core.List.{List}
@@ -7,17 +7,16 @@ use mathlib.Core.Bool.{Bool, true, false}
 use mathlib.Core.Option.{Option, some, none}
 use native.Mathlib.Nat.{add-zero, zero-add}
 use native.Mathlib.Omega.{arith}
-use native.Mathlib.Decide.{ℕ-discrete}
 use borrow.Author.Tests.{le-leb, lt-leb, eqb-true, eqb-false, eq-eqb, ne-eqb}
 use lib.Dec.{leb, eqb}
-use lib.ListN.{length, getD}
+use lib.ListN.{getD}
 use Rattle.laws.specs.Choice.{pick}
 use Rattle.keys.specs.Keys.{Tm, Args, node, nil, cons, Place, root, step, Key, key, endOf, subAt, down, nth, topOf, HasKey, down-some}
-use Rattle.terms.specs.Terms.{Signed}
-use Rattle.definitions.specs.Trees.{count, Symbol, Variable, Shaped, Shapes}
-use Rattle.definitions.specs.Candidates.{isVariable, agree, agreeAll, opens, stars, candidate}
-use Rattle.definitions.specs.Formulas.{Held, Set, union, meet, star, isTop, hasKey, holdsKey, isHeld, terms, getTerms, noArguments, form, allVariables, getVariants, eachVariants, getInstances, eachInstances, getGeneralizations, eachGeneralizations, getUnifiables, eachUnifiables, formula, stays}
-use Rattle.definitions.specs.Spelt.{clash, shaped-count}
+use Rattle.terms.specs.Terms.{Signed, refusal}
+use Rattle.definitions.specs.Trees.{count, Symbol, Variable, Shaped, Shapes, treeOf}
+use Rattle.definitions.specs.Candidates.{isVariable, agree, agreeAll, opens, stars, candidate, isCandidate}
+use Rattle.definitions.specs.Formulas.{Held, Set, union, meet, star, isTop, hasKey, holdsKey, isHeld, terms, getTerms, noArguments, form, allVariables, getVariants, eachVariants, getInstances, eachInstances, getGeneralizations, eachGeneralizations, getUnifiables, eachUnifiables, formula, stays, treeIn, trees, staysBytes}
+use Rattle.definitions.specs.Spelt.{clash, shaped-count, tree-shaped}
 
 -- GetTerms is right: the test of a key says whether the term has the key
 pub has-key : (t : Tm) (K : Key) → (hasKey t K ≡ true) ↔ HasKey t K
@@ -27,6 +26,18 @@ has-key t (key p e) = go (subAt p t)
     go : (o : Option Tm) → (isTop o e ≡ true) ↔ (topOf o ≡ some e)
     go none = ((λ h. clash h), (λ h. absurd (let z : _≡_ {A = ℕ} 0 1 = cc in omega arith)))
     go (some (node x us)) = ((λ h. ap some (eqb-true (endOf x) e h)), (λ h. let z : endOf x ≡ e = cc in eq-eqb (endOf x) e z))
+
+-- a slot is in GetTerms(p, e) exactly if it holds a term that has the key
+pub get-terms : (held : Held) (p : Place) (e s : ℕ) → (getTerms held p e s ≡ true) ↔ ((t : Tm) × (held s ≡ some t) × HasKey t (key p e))
+unfolding getTerms holdsKey
+get-terms held p e s = go (held s)
+  where
+    go : (o : Option Tm) → (holdsKey o (key p e) ≡ true) ↔ ((t : Tm) × (o ≡ some t) × HasKey t (key p e))
+    go none = ((λ h. clash h), (λ h. absurd (let d = h .1 in let z : _≡_ {A = ℕ} 0 1 = cc in omega arith)))
+    go (some t) = ((λ h. (t, refl, has-key t (key p e) .0 h)), (λ h. let d : t ≡ h .0 = one t (h .0) (h .1) in rw d (has-key (h .0) (key p e) .1 (h .2))))
+      where
+        one : (t u : Tm) → some t ≡ some u → t ≡ u
+        one t u e = cc
 
 -- one formula: qv, variables of the question are open; tv, those of the stored term
 abbrev starred : Bool → Set → Set → Set
@@ -354,3 +365,18 @@ formulas-table sig g held k q w r s = ap (λ (a : Set). a s) (formula-is r held 
     go : (o : Option Tm) → held s ≡ o → retrieve (opens r) (stars r) held root q s ≡ stays r q o
     go none e = empty (opens r) (stars r) held s e root q
     go (some t) e = retrieve-means (opens r) (stars r) held s t e sig g q w (k s t e)
+
+-- for slots that hold the bytes of checked terms
+pub formulas-bytes : (sig : List ℕ) → Signed sig → (stored : ℕ → Option (List ℕ)) → ((s : ℕ) (t : List ℕ) → stored s ≡ some t → refusal sig t ≡ 0)
+    → (q : List ℕ) → refusal sig q ≡ 0 → (r s : ℕ) → formula r (trees sig stored) (treeOf sig q) s ≡ staysBytes sig r q (stored s)
+unfolding staysBytes stays isCandidate treeIn
+formulas-bytes sig g stored k q w r s =
+    formulas-table sig g (trees sig stored) (λ z u e. shaped (stored z) u (k z) e) (treeOf sig q) (tree-shaped sig q g w) r s ∙ last (stored s)
+  where
+    shaped : (o : Option (List ℕ)) (u : Tm) → ((t : List ℕ) → o ≡ some t → refusal sig t ≡ 0) → treeIn sig o ≡ some u → Shaped sig u
+    shaped none u f e = absurd (let z : _≡_ {A = ℕ} 0 1 = cc in omega arith)
+    shaped (some t) u f e = let z : treeOf sig t ≡ u = cc in rw (← z) (tree-shaped sig t g (f t refl))
+
+    last : (o : Option (List ℕ)) → stays r (treeOf sig q) (treeIn sig o) ≡ staysBytes sig r q o
+    last none = refl
+    last (some t) = refl

@@ -1,13 +1,13 @@
 -- Document 01, 'Paths and keys': a key as bytes, 'steps of three bytes (symbol item, argument number) and then two bytes, a symbol or
 -- 0xFFFF for the star'. In a Key arguments are numbered from 0 and the star is 256.
-use Prim.Native.Nat.{ℕ, zero, suc, _+_, _-_, _*_, _/_, _%_, _≤_, _<_}
+use Prim.Native.Nat.{ℕ, suc, _+_, _-_, _*_, _/_, _%_, _≤_, _<_}
 use mathlib.Core.Path.{_≡_, refl, sym, ap, _∙_}
-use mathlib.Core.Logic.{_⊎_, inl, inr, _↔_, ⊎-elim}
+use mathlib.Core.Logic.{_⊎_, inl, inr, ⊎-elim}
 use mathlib.Core.List.{List, [], _∷_, _++_, append-assoc}
 use mathlib.Core.Bool.{Bool, true, false}
 use native.Mathlib.Omega.{arith}
 use native.Mathlib.Decide.{ℕ-discrete}
-use borrow.Author.Tests.{lt-ltb, le-ltb, le-leb, ltb-true, ltb-false, leb-true, eqb-true, eqb-false, eq-eqb, ne-eqb}
+use borrow.Author.Tests.{lt-ltb, le-ltb, le-leb, ltb-true, eqb-true, eqb-false, eq-eqb, ne-eqb}
 use lib.Dec.{ltb, leb, eqb}
 use lib.ListN.{length, getD, length-append}
 use Rattle.laws.specs.Choice.{pick}
@@ -16,7 +16,7 @@ use Rattle.keys.specs.Keys.{Tm, Args, node, nil, cons, Place, root, step, Key, 
 use Rattle.keys.specs.Bytes.{stepGood, endGood, stepsGood, isKey}
 use Rattle.terms.specs.Terms.{Signed, refusal}
 use Rattle.definitions.specs.Trees.{count, itemsT, Symbol, Variable, Shaped, Shapes, treeOf, keysOf}
-use Rattle.definitions.specs.Spelt.{end-variable, end-symbol, clash, taken, shaped-count, tree-shaped, term-tree, term-tree-is, size-items}
+use Rattle.definitions.specs.Spelt.{end-variable, end-symbol, clash, taken, tree-shaped, term-tree, term-tree-is, size-items}
 
 unfoldable pub placeBytes : Place → List ℕ
 placeBytes root = []

@@ -1,15 +1,15 @@
 -- From trees to flat lists of items: candidates of trees are candidates of lists, and whatever substitutions make the same is a candidate.
 -- Devices of Linear's proof.
-use Prim.Native.Nat.{ℕ, zero, suc, _+_, _-_, _≤_, _<_}
+use Prim.Native.Nat.{ℕ, suc, _+_, _-_, _<_}
 use mathlib.Core.Path.{_≡_, refl, sym, ap, _∙_}
-use mathlib.Core.Logic.{_⊎_, inl, inr, _↔_}
-use mathlib.Core.List.{List, [], _∷_, _++_, append-assoc, append-nil, map}
+use mathlib.Core.Logic.{_⊎_, inl, inr}
+use mathlib.Core.List.{List, [], _∷_, _++_, append-assoc}
 use mathlib.Core.Bool.{Bool, true, false}
-use native.Mathlib.Nat.{zero-add, suc-add, add-zero}
+use native.Mathlib.Nat.{zero-add, suc-add}
 use native.Mathlib.Omega.{arith}
 use borrow.Author.Tests.{leb-true, le-leb, lt-leb, le-ltb, lt-ltb, eqb-true, eqb-false, eq-eqb}
-use lib.Dec.{T, leb, ltb, eqb}
-use lib.ListN.{length, getD}
+use lib.Dec.{T, eqb}
+use lib.ListN.{getD}
 use Rattle.laws.specs.Choice.{pick}
 use Rattle.keys.specs.Keys.{Tm, Args, node, nil, cons}
 use Rattle.terms.specs.Terms.{Signed}
@@ -19,7 +19,7 @@ use Rattle.theory.specs.Items.{item16, items16, arity, shift}
 use Rattle.definitions.specs.Trees.{count, itemsT, itemsA, Symbol, Variable, Shaped, Shapes}
 use Rattle.definitions.specs.Candidates.{isVariable, agree, agreeAll}
 use Rattle.definitions.specs.Spelt.{clash}
-use Rattle.definitions.specs.LinearFlat.{Below, Cand, done, both, symb, qvar, tvar}
+use Rattle.definitions.specs.LinearFlat.{Below, Cand, both, symb, qvar, tvar}
 
 holds : (b : Bool) → b ≡ true → T b
 holds true h = tt

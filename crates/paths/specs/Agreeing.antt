@@ -1,13 +1,13 @@
 -- Document 01's table of candidates is what the walk through the tables finds: the definitions' `agree` against the walk's `Agree`.
-use Prim.Native.Nat.{ℕ, zero, suc, _≤_, _<_}
+use Prim.Native.Nat.{ℕ, _≤_, _<_}
 use mathlib.Core.Path.{_≡_, refl, sym, ap, _∙_}
 use mathlib.Core.Logic.{_⊎_, inl, inr, _↔_, ⊎-elim}
 use mathlib.Core.List.{List}
 use mathlib.Core.Bool.{Bool, true, false}
 use native.Mathlib.Omega.{arith}
-use borrow.Author.Tests.{le-leb, lt-leb, eqb-true, eqb-false, eq-eqb}
+use borrow.Author.Tests.{le-leb, lt-leb, eqb-true, eq-eqb}
 use lib.Dec.{T, leb, eqb}
-use lib.ListN.{length, getD}
+use lib.ListN.{getD}
 use Rattle.laws.specs.Choice.{pick}
 use Rattle.keys.specs.Keys.{Tm, Args, node, nil, cons, endOf}
 use Rattle.terms.specs.Terms.{Signed, refusal}
