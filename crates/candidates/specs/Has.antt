@@ -30,7 +30,7 @@ end-symbol x h = rw h
 zero-bit : (i : ℕ) → bit 0 i ≡ 0
 zero-bit i = rw (div-eq-of-lt (pow-pos i))
 
-none-has : (s : ℕ) → has (replicate 8 0) s ≡ 0
+pub none-has : (s : ℕ) → has (replicate 8 0) s ≡ 0
 unfolding has
 none-has s = go (s / 64)
   where

@@ -1,0 +1,5 @@
+pub mod Numbers
+pub mod One
+pub mod Retrieving
+pub mod Solving
+pub mod Stands
