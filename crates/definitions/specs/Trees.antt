@@ -4,7 +4,7 @@ use mathlib.Core.Path.{_≡_}
 use mathlib.Core.Logic.{_⊎_}
 use mathlib.Core.List.{List, [], _∷_, _++_}
 use lib.ListN.{length, getD}
-use Rattle.keys.specs.Keys.{Tm, Args, node, nil, cons}
+use Rattle.keys.specs.Keys.{Tm, Args, node, nil, cons, Key, root, keysT}
 use Rattle.terms.specs.Terms.{numbers}
 
 -- how many arguments there are
@@ -68,3 +68,10 @@ top (cons t us) = t
 -- the tree that the bytes of a term spell
 unfoldable pub treeOf : List ℕ → List ℕ → Tm
 treeOf sig t = top (forest sig (numbers t))
+
+-- the arguments of its root, and its keys
+unfoldable pub argsOf : Tm → Args
+argsOf (node x us) = us
+
+unfoldable pub keysOf : List ℕ → List ℕ → List Key
+keysOf sig t = keysT root (treeOf sig t)

@@ -1,25 +1,19 @@
 -- The candidate walk through the tables, and what it means.
-use Prim.Native.Nat.{ℕ, zero, suc, _+_, _-_, _*_, _/_, _%_, _≤_, _<_}
-use mathlib.Core.Path.{_≡_, refl, sym, ap, _∙_, subst}
+use Prim.Native.Nat.{ℕ, suc, _+_, _-_, _*_, _≤_, _<_}
+use mathlib.Core.Path.{_≡_, sym, ap, _∙_, subst}
 use mathlib.Core.Logic.{_⊎_, inl, inr, _↔_, ⊎-elim}
-use mathlib.Core.List.{List, [], _∷_, _++_}
+use mathlib.Core.List.{List}
 use mathlib.Core.Bool.{Bool, true, false}
-use mathlib.Core.Option.{Option, some, none}
+use mathlib.Core.Option.{Option, some}
 use native.Mathlib.Omega.{arith}
-use native.Mathlib.Decide.{ℕ-discrete, decLt}
 use native.Mathlib.Nat.{add-zero}
-use borrow.Author.Tests.{leb-true, leb-false}
 use lib.Dec.{T, leb}
-use lib.ListN.{length, getD}
 use Rattle.laws.specs.Choice.{pick}
 use Rattle.chains.specs.Chains.{find}
-use Rattle.keys.specs.Keys.{Place, root, step, Key, key, Tm, Args, node, nil, cons, endOf, HasKey, subAt, topOf, down, nth, down-some}
-use Rattle.paths.specs.Rep.{lab, At, top, kid, Den, Rep, find-den, den-find, find-there}
+use Rattle.keys.specs.Keys.{Place, step, key, Tm, Args, node, nil, cons, endOf, HasKey, subAt, topOf, down, nth, down-some}
+use Rattle.definitions.specs.Trees.{count}
+use Rattle.paths.specs.Rep.{lab, At, kid, Den, Rep, find-den, find-there}
 use Rattle.paths.specs.Store.{Stored, KeyIn}
-
-abbrev pub count : Args → ℕ
-count nil = 0
-count (cons t us) = suc (count us)
 
 -- every symbol has as many arguments as its arity, at most eight, and is below 256
 unfoldable mutual
@@ -32,7 +26,7 @@ unfoldable mutual
 
 -- qv: a variable of the question agrees with anything; tv: a variable of the stored term does
 module _ (qv tv : Bool) where
-  -- document 01's table, on two terms
+  -- what the walk finds of two terms, by the ends of their paths: document 01's table (Agreeing shows that)
   unfoldable mutual
     pub Agree : Tm → Tm → Type 0
     Agree (node x us) (node y vs) = pick (leb 32768 x) (pick qv (Unit {0}) (endOf y ≡ 256)) ((T tv × (endOf y ≡ 256)) ⊎ ((endOf y ≡ endOf x) × Agrees us vs))
@@ -94,7 +88,7 @@ module _ (qv tv : Bool) where
           fro z = rw (u, z)
 
       mutual
-        unfolding walkT Agree Wf subAt nth
+        unfolding walkT Agree Wf subAt nth count
 
         -- slot s is in the result exactly if it is in W and its term at this place agrees
         pub walkT-means : (q : Tm) (n : ℕ) (P : Place) (W : ℕ → Type 0) (v : Tm) → At label n P → subAt P t ≡ some v → Wf ar q → Wf ar v → walkT q n W s ↔ (W s × Agree q v)

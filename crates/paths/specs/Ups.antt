@@ -1,20 +1,11 @@
 -- The ups of a term, read off its flat list of items with the ups that are still to come.
-use Prim.Native.Nat.{ℕ, zero, suc, _+_, _*_, _≤_, _<_}
-use mathlib.Core.Path.{_≡_, refl, sym, ap, _∙_}
+use Prim.Native.Nat.{ℕ, zero, suc, _+_, _*_}
+use mathlib.Core.Path.{_≡_, ap, _∙_}
 use mathlib.Core.List.{List, [], _∷_, _++_, append-assoc, append-nil}
 use native.Mathlib.Omega.{arith}
-use lib.ListN.{length, length-append}
 use Rattle.keys.specs.Keys.{Tm, Args, node, nil, cons, size, sizes}
+use Rattle.definitions.specs.Trees.{count, itemsT, itemsA}
 use Rattle.paths.specs.Walk.{upsT, upsA}
-use Rattle.paths.specs.Cand.{count}
-
-unfoldable mutual
-  pub itemsT : Tm → List ℕ
-  itemsT (node x us) = x ∷ itemsA us
-
-  pub itemsA : Args → List ℕ
-  itemsA nil = []
-  itemsA (cons t us) = itemsT t ++ itemsA us
 
 -- the ups of arguments i to i + a - 1 of item n
 unfoldable pub kids : ℕ → ℕ → ℕ → List ℕ
@@ -35,7 +26,7 @@ unfoldable mutual
   Shapes ar (cons t us) = Shaped ar t × Shapes ar us
 
 mutual
-  unfolding upsF itemsT upsT size Shaped kids
+  unfolding upsF itemsT upsT size Shaped kids count
 
   pub ups-flat : (t : Tm) (ar : ℕ → ℕ) (n u : ℕ) (ps xs : List ℕ) → Shaped ar t → upsF ar n (u ∷ ps) (itemsT t ++ xs) ≡ upsT n u t ++ upsF ar (n + size t) ps xs
   ups-flat (node x us) ar n u ps xs w =
