@@ -1,3 +1,6 @@
 pub mod Calls
+pub mod Kept
+pub mod Links
+pub mod Means
 pub mod Opening
 pub mod Tables
