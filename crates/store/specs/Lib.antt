@@ -1,4 +1,5 @@
 pub mod Calls
+pub mod Changes
 pub mod Kept
 pub mod Links
 pub mod Means

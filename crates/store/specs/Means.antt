@@ -70,15 +70,15 @@ pub record Holds (T : Tables) (sig : List ℕ) (st : Slots) : Type 0 where
   pub terms : (s : ℕ) (t : List ℕ) → st s ≡ some t → (termOf (T .bytes) s ≡ t) × (refusal sig t ≡ 0)
   pub index : GoodSt (indexOf T) (trees sig st)
 
-changed-same : (st : Slots) (s : ℕ) (o : Option (List ℕ)) (x : ℕ) → x ≡ s → changed st s o x ≡ o
+pub changed-same : (st : Slots) (s : ℕ) (o : Option (List ℕ)) (x : ℕ) → x ≡ s → changed st s o x ≡ o
 unfolding changed
 changed-same st s o x h = rw (eq-eqb x s h)
 
-changed-other : (st : Slots) (s : ℕ) (o : Option (List ℕ)) (x : ℕ) → (x ≡ s → ⊥) → changed st s o x ≡ st x
+pub changed-other : (st : Slots) (s : ℕ) (o : Option (List ℕ)) (x : ℕ) → (x ≡ s → ⊥) → changed st s o x ≡ st x
 unfolding changed
 changed-other st s o x h = rw (ne-eqb x s h)
 
-trees-changed : (sig : List ℕ) (st : Slots) (s : ℕ) (o : Option (List ℕ)) (x : ℕ) → put (trees sig st) s (treeIn sig o) x ≡ trees sig (changed st s o) x
+pub trees-changed : (sig : List ℕ) (st : Slots) (s : ℕ) (o : Option (List ℕ)) (x : ℕ) → put (trees sig st) s (treeIn sig o) x ≡ trees sig (changed st s o) x
 unfolding put changed
 trees-changed sig st s o x = go (eqb x s)
   where
@@ -87,7 +87,7 @@ trees-changed sig st s o x = go (eqb x s)
     go false = refl
 
 -- an index for a store is one for every store with the same terms
-good-same : (σ : St Sets) (a b : ℕ → Option Tm) → ((s : ℕ) → a s ≡ b s) → GoodSt σ a → GoodSt σ b
+pub good-same : (σ : St Sets) (a b : ℕ → Option Tm) → ((s : ℕ) → a s ≡ b s) → GoodSt σ a → GoodSt σ b
 good-same σ a b e g = record {
   rep = rep-iff _ _ _ _ (Stored b) (λ s P x. ((λ (h : KeyIn (a s) P x). subst (λ (o : Option Tm). KeyIn o P x) (e s) h), (λ (h : KeyIn (b s) P x). subst (λ (o : Option Tm). KeyIn o P x) (sym (e s)) h))) (g .rep);
   full = g .full;

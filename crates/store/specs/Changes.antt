@@ -1,0 +1,183 @@
+-- Document 01, 'Store': insert and delete of the tables are insert and delete of the store, in the smallest free slot; refusal 12.
+use Prim.Native.Nat.{ℕ, zero, suc, _+_, _-_, _*_, _≤_, _<_}
+use mathlib.Core.Path.{_≡_, refl, sym, ap, _∙_, subst}
+use mathlib.Core.Logic.{_⊎_, inl, inr, _↔_}
+use mathlib.Core.List.{List, [], _∷_, _++_, map}
+use mathlib.Core.Bool.{Bool, true, false}
+use mathlib.Core.Option.{Option, some, none}
+use native.Mathlib.Omega.{arith}
+use native.Mathlib.Decide.{ℕ-discrete, decLt}
+use borrow.Author.Tests.{eq-eqb, ne-eqb, lt-ltb}
+use lib.Dec.{ltb, eqb}
+use lib.ListN.{length, getD, take, length-append, length-map}
+use lib.Seq.{sets, length-sets, take-all}
+use Rattle.laws.specs.Choice.{pick}
+use Rattle.laws.specs.Members.{In}
+use Rattle.slots.specs.Slots.{has, others, Next}
+use Rattle.terms.specs.Terms.{numbers, Signed, refusal}
+use Rattle.terms.proofs.Laws.{good}
+use Rattle.keys.specs.Keys.{Tm, Args, node, nil, cons, Place, Key, key, endOf, size, sizes}
+use Rattle.definitions.specs.Trees.{itemsT, treeOf}
+use Rattle.definitions.specs.Spelt.{size-items}
+use Rattle.chains.specs.Chains.{longer}
+use Rattle.bank.specs.Bank.{Sets, mem}
+use Rattle.paths.specs.Free.{frees, room}
+use Rattle.paths.specs.Walk.{upsT, upsA, endsT, keyList}
+use Rattle.paths.specs.Insert.{St, RK, With}
+use Rattle.paths.specs.Locate.{numList, missing, located as locatedKeys, lack-of}
+use Rattle.paths.specs.Store.{Stored, KeyIn, put, Fine, fine-back, fine-nodup, fine-in}
+use Rattle.paths.specs.Spelt.{Spelt, spelt}
+use Rattle.paths.specs.Count.{Distinct, keys-refused}
+use Rattle.walks.specs.Fill.{fill, insFill, delFill}
+use Rattle.walks.specs.Means.{GoodSt, insert-means, delete-means, fill-nums}
+use Rattle.layout.specs.Layout.{signatureOf, termOf, usedOf, isUsed}
+use Rattle.layout.proofs.Laws.{signature-good, length-with-term}
+use Rattle.store.specs.Tables.{Tables, indexOf, upsOf, endsOf, noNumbers, located, roomFor, withKeys, withoutKeys, withoutTerm, leastFrom, freeSlot, insertedAt, deletedAt}
+use Rattle.store.specs.Kept.{with-signature, with-term-same, with-term-other, insert-same, insert-other, insert-words, remove-same, remove-other, remove-words, has-others}
+use Rattle.store.specs.Means.{Slots, changed, changed-same, changed-other, filled, treeIn, trees, trees-changed, good-same, Holds}
+
+-- the outline of a checked term is that of its tree
+mutual
+  unfolding upsT size
+
+  ups-length : (t : Tm) (n u : ℕ) → length (upsT n u t) ≡ size t
+  ups-length (node x us) n u = ap suc (upsA-length us (suc n) n 0)
+
+  upsA-length : (us : Args) (m n i : ℕ) → length (upsA m n i us) ≡ sizes us
+  upsA-length nil m n i = refl
+  upsA-length (cons t us) m n i =
+      omega (arith, length-append (upsT m (suc (n * 8 + i)) t) (upsA (m + size t) n (suc i) us), ups-length t m (suc (n * 8 + i)), upsA-length us (m + size t) n (suc i))
+
+pub record Drawn (sig t : List ℕ) : Type 0 where
+  pub fine : Fine (treeOf sig t)
+  pub ups : upsOf sig t ≡ upsT 0 0 (treeOf sig t)
+  pub ends : endsOf sig t ≡ endsT (treeOf sig t)
+  pub same : length (upsT 0 0 (treeOf sig t)) ≡ length (endsT (treeOf sig t))
+  pub few : length (upsT 0 0 (treeOf sig t)) ≤ 32
+
+pub drawn : (sig t : List ℕ) → Signed sig → refusal sig t ≡ 0 → Drawn sig t
+unfolding upsOf endsOf
+drawn sig t g h =
+    let p = spelt sig t g h in
+    let u = treeOf sig t in
+    let a = ups-length u 0 0 in
+    let b = size-items u in
+    let i : length (itemsT u) ≡ length (numbers t) = ap length (p .items) in
+    let m = length-map (numbers t) endOf in
+    let e : length (endsT u) ≡ length (map endOf (numbers t)) = sym (ap length (p .ends)) in
+    record {
+      fine = p .fine;
+      ups = p .ups;
+      ends = rw (p .ups) (take-all (length (upsT 0 0 u)) (map endOf (numbers t)) (omega (arith, a, b, i, m)) ∙ p .ends);
+      same = omega (arith, a, b, i, m, e);
+      few = (let s = p .short in omega (arith, a, s));
+    }
+
+-- the smallest slot that holds nothing, or 512
+pub record Smallest (st : Slots) (s : ℕ) : Type 0 where
+  pub most : s ≤ 512
+  pub free : s < 512 → st s ≡ none
+  pub before : (x : ℕ) → x < s → st x ≡ none → ⊥
+
+digit : (ws : List ℕ) (x : ℕ) → (has ws x ≡ 1 → ⊥) → has ws x ≡ 0
+unfolding has
+digit ws x q = omega arith
+
+least-next : (k : ℕ) (ws : List ℕ) (from : ℕ) → from + k ≡ 512 → Next ws from (leastFrom ws from k)
+unfolding leastFrom
+least-next zero ws from e = record { above = omega arith; most = omega arith; member = λ h. absurd (omega arith); none = λ x a b. absurd (omega arith) }
+least-next (suc k) ws from e = go (ℕ-discrete (has ws from) 1) (least-next k ws (suc from) (omega arith))
+  where
+    go : Dec (has ws from ≡ 1) → Next ws (suc from) (leastFrom ws (suc from) k) → Next ws from (pick (eqb (has ws from) 1) from (leastFrom ws (suc from) k))
+    go (yes h) n = rw (eq-eqb (has ws from) 1 h) (record { above = omega arith; most = omega arith; member = λ l. h; none = λ x a b. absurd (omega arith) })
+    go (no h) n = rw (ne-eqb (has ws from) 1 h) (record {
+      above = (let a = n .above in omega arith);
+      most = n .most;
+      member = n .member;
+      none = λ x a b. first x a b (ℕ-discrete x from);
+    })
+      where
+        first : (x : ℕ) → from ≤ x → x < leastFrom ws (suc from) k → Dec (x ≡ from) → has ws x ≡ 0
+        first x a b (yes z) = rw z (digit ws from h)
+        first x a b (no z) = n .none x (omega arith) b
+
+empty-slot : (o : Option (List ℕ)) → filled o ≡ 0 → o ≡ none
+empty-slot none h = refl
+empty-slot (some t) h = absurd (omega arith)
+
+pub smallest : (T : Tables) (sig : List ℕ) (st : Slots) → Holds T sig st → Smallest st (freeSlot (T .used))
+unfolding freeSlot
+smallest T sig st h = record {
+  most = n .most;
+  free = λ l. empty-slot (st r) (let a = n .member l in let b = has-others (T .used) r (h .words) l in let c = h .slots r l in omega (arith, a, b, c));
+  before = λ x l e. let m = n .most in let q : x < 512 = omega arith in
+      let a = n .none x (omega arith) l in let b = has-others (T .used) x (h .words) q in let c = h .slots x q ∙ ap filled e in omega (arith, a, b, c);
+}
+  where
+    r : ℕ
+    r = leastFrom (others (usedOf (T .used))) 0 512
+
+    n : Next (others (usedOf (T .used))) 0 r
+    n = least-next 512 (others (usedOf (T .used))) 0 refl
+
+-- the missing keys of a term, counted
+room-count : (link label : List ℕ) (sig t : List ℕ) → Drawn sig t
+    → missing (take (length (upsOf sig t)) (located link label (upsOf sig t) (endsOf sig t))) ≡ missing (numList link label [] (upsT 0 0 (treeOf sig t)) (endsT (treeOf sig t)))
+unfolding located noNumbers
+room-count link label sig t d =
+    let u = treeOf sig t in
+    let z : 0 + length (upsT 0 0 u) ≡ length (upsT 0 0 u) = omega arith in
+    let f = rw z at (fill-nums link label (upsT 0 0 u) (endsT u) noNumbers 0 (fine-back u (d .fine)) (let w = d .few in omega arith) (d .same)) in
+    rw (d .ups, d .ends) (ap missing f)
+
+-- refusal 12 is decided on the chain of free keys
+room-frees : (T : Tables) (sig : List ℕ) (st : Slots) (t : List ℕ) → Holds T sig st → Drawn sig t
+    → (roomFor (T .link) (T .label) (upsOf sig t) (endsOf sig t) ≡ true) ↔ (missing (numList (T .link) (T .label) [] (upsT 0 0 (treeOf sig t)) (endsT (treeOf sig t))) ≤ frees (T .label))
+unfolding roomFor
+room-frees T sig st t h d = rw (room-count (T .link) (T .label) sig t d) (room (T .link) (T .label) _ (h .index .rep .chains))
+
+-- INSERT
+insert-index : (T : Tables) (sig : List ℕ) (st : Slots) (t : List ℕ) (s : ℕ) → Holds T sig st → Drawn sig t → s < 512 → st s ≡ none → roomFor (T .link) (T .label) (upsOf sig t) (endsOf sig t) ≡ true
+    → GoodSt (withKeys (indexOf T) (upsOf sig t) (endsOf sig t) s) (trees sig (changed st s (some t)))
+unfolding withKeys noNumbers
+insert-index T sig st t s h d l e r =
+    let u = treeOf sig t in
+    let m = room-frees T sig st t h d .0 r in
+    let g = insert-means (indexOf T) (trees sig st) s u noNumbers (h .index) l (ap (treeIn sig) e) (d .fine) (let w = d .few in omega arith) (d .same) m in
+    rw (d .ups, d .ends) (good-same _ _ _ (trees-changed sig st s (some t)) g)
+
+pub insert-holds : (T : Tables) (sig : List ℕ) (st : Slots) (t : List ℕ) (s : ℕ) → Holds T sig st → refusal sig t ≡ 0 → s < 512 → st s ≡ none → roomFor (T .link) (T .label) (upsOf sig t) (endsOf sig t) ≡ true
+    → Holds (insertedAt T t s) sig (changed st s (some t))
+unfolding insertedAt
+insert-holds T sig st t s h r l e m =
+    let b = T .bytes in
+    let u = T .used in
+    let k = good sig t r .short in
+    let S : Signed sig = subst Signed (h .signature) (signature-good b) in
+    record {
+      bytes = (let z = length-with-term b s t in let y = h .bytes in omega (arith, z, y));
+      used = (let z = length-sets u 0 (usedOf (Rattle.slots.specs.Slots.inserted (usedOf u) s)) in let y = h .used in omega (arith, z, y));
+      words = insert-words u s (h .used) l (h .words);
+      signature = with-signature b s t (h .bytes) l k ∙ h .signature;
+      slots = λ x g. slot x g (ℕ-discrete x s);
+      beyond = λ x g. changed-other st s (some t) x (λ z. omega arith) ∙ h .beyond x g;
+      terms = λ x v g. term x v g (ℕ-discrete x s);
+      index = rw (h .signature) (insert-index T sig st t s h (drawn sig t S r) l e m);
+    }
+  where
+    slot : (x : ℕ) → x < 512 → Dec (x ≡ s) → has (usedOf (sets (T .used) 0 (usedOf (Rattle.slots.specs.Slots.inserted (usedOf (T .used)) s)))) x ≡ filled (changed st s (some t) x)
+    slot x g (yes z) = rw (changed-same st s (some t) x z, z) (insert-same (T .used) s (h .used) l (h .words))
+    slot x g (no z) = rw (changed-other st s (some t) x z) (insert-other (T .used) s (h .used) l (h .words) x g z ∙ h .slots x g)
+
+    term : (x : ℕ) (v : List ℕ) → changed st s (some t) x ≡ some v → Dec (x ≡ s) → (termOf (Rattle.layout.specs.Layout.withTerm (T .bytes) s t) x ≡ v) × (refusal sig v ≡ 0)
+    term x v g (yes z) =
+        let w : t ≡ v = (let y = sym (changed-same st s (some t) x z) ∙ g in cc) in
+        rw (z, ← w) (with-term-same (T .bytes) s t (h .bytes) l (good sig t r .short), r)
+    term x v g (no z) =
+        let y : st x ≡ some v = sym (changed-other st s (some t) x z) ∙ g in
+        let q = h .terms x v y in
+        (with-term-other (T .bytes) s t (h .bytes) l (good sig t r .short) x (low x v y (decLt x 512)) z ∙ q .0, q .1)
+      where
+        low : (x : ℕ) (v : List ℕ) → st x ≡ some v → Dec (x < 512) → x < 512
+        low x v y (yes p) = p
+        low x v y (no p) = absurd (let a = h .beyond x (omega arith) in let z : _≡_ {A = ℕ} 0 1 = cc in omega arith)
