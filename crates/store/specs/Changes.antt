@@ -7,13 +7,13 @@ use mathlib.Core.Bool.{Bool, true, false}
 use mathlib.Core.Option.{Option, some, none}
 use native.Mathlib.Omega.{arith}
 use native.Mathlib.Decide.{ℕ-discrete, decLt}
-use borrow.Author.Tests.{eq-eqb, ne-eqb, lt-ltb}
+use borrow.Author.Tests.{eq-eqb, ne-eqb, lt-ltb, le-ltb}
 use lib.Dec.{ltb, eqb}
 use lib.ListN.{length, getD, take, length-append, length-map}
 use lib.Seq.{sets, length-sets, take-all}
 use Rattle.laws.specs.Choice.{pick}
 use Rattle.laws.specs.Members.{In}
-use Rattle.slots.specs.Slots.{has, others, Next}
+use Rattle.slots.specs.Slots.{has, inserted, removed, others, Next}
 use Rattle.terms.specs.Terms.{numbers, Signed, refusal}
 use Rattle.terms.proofs.Laws.{good}
 use Rattle.keys.specs.Keys.{Tm, Args, node, nil, cons, Place, Key, key, endOf, size, sizes}
@@ -30,7 +30,7 @@ use Rattle.paths.specs.Spelt.{Spelt, spelt}
 use Rattle.paths.specs.Count.{Distinct, keys-refused}
 use Rattle.walks.specs.Fill.{fill, insFill, delFill}
 use Rattle.walks.specs.Means.{GoodSt, insert-means, delete-means, fill-nums}
-use Rattle.layout.specs.Layout.{signatureOf, termOf, usedOf, isUsed}
+use Rattle.layout.specs.Layout.{signatureOf, termOf, usedOf, isUsed, withTerm}
 use Rattle.layout.proofs.Laws.{signature-good, length-with-term}
 use Rattle.store.specs.Tables.{Tables, indexOf, upsOf, endsOf, noNumbers, located, roomFor, withKeys, withoutKeys, withoutTerm, leastFrom, freeSlot, insertedAt, deletedAt}
 use Rattle.store.specs.Kept.{with-signature, with-term-same, with-term-other, insert-same, insert-other, insert-words, remove-same, remove-other, remove-words, has-others}
@@ -156,7 +156,7 @@ insert-holds T sig st t s h r l e m =
     let S : Signed sig = subst Signed (h .signature) (signature-good b) in
     record {
       bytes = (let z = length-with-term b s t in let y = h .bytes in omega (arith, z, y));
-      used = (let z = length-sets u 0 (usedOf (Rattle.slots.specs.Slots.inserted (usedOf u) s)) in let y = h .used in omega (arith, z, y));
+      used = (let z = length-sets u 0 (usedOf (inserted (usedOf u) s)) in let y = h .used in omega (arith, z, y));
       words = insert-words u s (h .used) l (h .words);
       signature = with-signature b s t (h .bytes) l k ∙ h .signature;
       slots = λ x g. slot x g (ℕ-discrete x s);
@@ -165,11 +165,11 @@ insert-holds T sig st t s h r l e m =
       index = rw (h .signature) (insert-index T sig st t s h (drawn sig t S r) l e m);
     }
   where
-    slot : (x : ℕ) → x < 512 → Dec (x ≡ s) → has (usedOf (sets (T .used) 0 (usedOf (Rattle.slots.specs.Slots.inserted (usedOf (T .used)) s)))) x ≡ filled (changed st s (some t) x)
+    slot : (x : ℕ) → x < 512 → Dec (x ≡ s) → has (usedOf (sets (T .used) 0 (usedOf (inserted (usedOf (T .used)) s)))) x ≡ filled (changed st s (some t) x)
     slot x g (yes z) = rw (changed-same st s (some t) x z, z) (insert-same (T .used) s (h .used) l (h .words))
     slot x g (no z) = rw (changed-other st s (some t) x z) (insert-other (T .used) s (h .used) l (h .words) x g z ∙ h .slots x g)
 
-    term : (x : ℕ) (v : List ℕ) → changed st s (some t) x ≡ some v → Dec (x ≡ s) → (termOf (Rattle.layout.specs.Layout.withTerm (T .bytes) s t) x ≡ v) × (refusal sig v ≡ 0)
+    term : (x : ℕ) (v : List ℕ) → changed st s (some t) x ≡ some v → Dec (x ≡ s) → (termOf (withTerm (T .bytes) s t) x ≡ v) × (refusal sig v ≡ 0)
     term x v g (yes z) =
         let w : t ≡ v = (let y = sym (changed-same st s (some t) x z) ∙ g in cc) in
         rw (z, ← w) (with-term-same (T .bytes) s t (h .bytes) l (good sig t r .short), r)
@@ -181,3 +181,120 @@ insert-holds T sig st t s h r l e m =
         low : (x : ℕ) (v : List ℕ) → st x ≡ some v → Dec (x < 512) → x < 512
         low x v y (yes p) = p
         low x v y (no p) = absurd (let a = h .beyond x (omega arith) in let z : _≡_ {A = ℕ} 0 1 = cc in omega arith)
+
+-- DELETE
+delete-index : (T : Tables) (sig : List ℕ) (st : Slots) (t : List ℕ) (s : ℕ) → Holds T sig st → Drawn sig t → s < 512 → st s ≡ some t
+    → GoodSt (withoutKeys (indexOf T) (upsOf sig t) (endsOf sig t) s) (trees sig (changed st s none))
+unfolding withoutKeys located noNumbers
+delete-index T sig st t s h d l e =
+    let u = treeOf sig t in
+    let g = delete-means (indexOf T) (trees sig st) s u noNumbers (h .index) l (ap (treeIn sig) e) (d .fine) (let w = d .few in omega arith) (d .same) in
+    rw (d .ups, d .ends) (good-same _ _ _ (trees-changed sig st s none) g)
+
+pub delete-holds : (T : Tables) (sig : List ℕ) (st : Slots) (t : List ℕ) (s : ℕ) → Holds T sig st → s < 512 → st s ≡ some t → Holds (deletedAt T s) sig (changed st s none)
+unfolding deletedAt withoutTerm
+delete-holds T sig st t s h l e =
+    let u = T .used in
+    let q = h .terms s t e in
+    let S : Signed sig = subst Signed (h .signature) (signature-good (T .bytes)) in
+    record {
+      bytes = h .bytes;
+      used = (let z = length-sets u 0 (usedOf (removed (usedOf u) s)) in let y = h .used in omega (arith, z, y));
+      words = remove-words u s (h .used) l (h .words);
+      signature = h .signature;
+      slots = λ x g. slot x g (ℕ-discrete x s);
+      beyond = λ x g. changed-other st s none x (λ z. omega arith) ∙ h .beyond x g;
+      terms = λ x v g. term x v g (ℕ-discrete x s);
+      index = rw (h .signature, q .0, eq-eqb (refusal sig t) 0 (q .1)) (delete-index T sig st t s h (drawn sig t S (q .1)) l e);
+    }
+  where
+    slot : (x : ℕ) → x < 512 → Dec (x ≡ s) → has (usedOf (sets (T .used) 0 (usedOf (removed (usedOf (T .used)) s)))) x ≡ filled (changed st s none x)
+    slot x g (yes z) = rw (changed-same st s none x z, z) (remove-same (T .used) s (h .used) l (h .words))
+    slot x g (no z) = rw (changed-other st s none x z) (remove-other (T .used) s (h .used) l (h .words) x g z ∙ h .slots x g)
+
+    term : (x : ℕ) (v : List ℕ) → changed st s none x ≡ some v → Dec (x ≡ s) → (termOf (T .bytes) x ≡ v) × (refusal sig v ≡ 0)
+    term x v g (yes z) = absurd (let y = sym (changed-same st s none x z) ∙ g in let w : _≡_ {A = ℕ} 0 1 = cc in omega arith)
+    term x v g (no z) = h .terms x v (sym (changed-other st s none x z) ∙ g)
+
+-- a slot is in use exactly where the store holds something there
+pub use-means : (T : Tables) (sig : List ℕ) (st : Slots) (s : ℕ) → Holds T sig st → isUsed (T .used) s ≡ eqb (filled (st s)) 1
+unfolding isUsed
+use-means T sig st s h = go (decLt s 512)
+  where
+    go : Dec (s < 512) → pick (ltb s 512) (eqb (has (usedOf (T .used)) s) 1) false ≡ eqb (filled (st s)) 1
+    go (yes l) = rw (lt-ltb s 512 l, h .slots s l)
+    go (no l) = rw (le-ltb s 512 (omega arith), h .beyond s (omega arith))
+
+-- REFUSAL 12: a term goes in exactly where the store with it would have at most 4,096 distinct keys
+with-stored : (st : ℕ → Option Tm) (s : ℕ) (t : Tm) → st s ≡ none → Fine t → (u : ℕ) (P : Place) (x : ℕ) → Stored (put st s (some t)) u P x ↔ With (Stored st) s (keyList [] (upsT 0 0 t) (endsT t)) u P x
+unfolding put
+with-stored st s t e f u P x = go (ℕ-discrete u s)
+  where
+    go : Dec (u ≡ s) → KeyIn (pick (eqb u s) (some t) (st u)) P x ↔ With (Stored st) s (keyList [] (upsT 0 0 t) (endsT t)) u P x
+    go (yes q) = rw (eq-eqb u s q) ((λ h. inr (q, fine-in t f (key P x) .0 h)), back)
+      where
+        back : With (Stored st) s (keyList [] (upsT 0 0 t) (endsT t)) u P x → KeyIn (some t) P x
+        back (inl h) = absurd (subst (λ (o : Option Tm). KeyIn o P x) (ap st q ∙ e) h)
+        back (inr h) = fine-in t f (key P x) .1 (h .1)
+    go (no q) = rw (ne-eqb u s q) ((λ h. inl h), back)
+      where
+        back : With (Stored st) s (keyList [] (upsT 0 0 t) (endsT t)) u P x → KeyIn (st u) P x
+        back (inl h) = h
+        back (inr h) = absurd (q (h .0))
+
+distinct-iff : (R Q : ℕ → Place → ℕ → Type 0) (n : ℕ) → ((s : ℕ) (P : Place) (x : ℕ) → R s P x ↔ Q s P x) → Distinct R n → Distinct Q n
+distinct-iff R Q n e d = record {
+  keys = d .keys;
+  nodup = d .nodup;
+  from = λ K i. let w = d .from K i in (w .0, to (w .0) K (w .1));
+  into = λ s K h. d .into s K (fro s K h);
+  many = d .many;
+}
+  where
+    to : (s : ℕ) (K : Key) → RK R s K → RK Q s K
+    to s (key P x) h = e s P x .0 h
+
+    fro : (s : ℕ) (K : Key) → RK Q s K → RK R s K
+    fro s (key P x) h = e s P x .1 h
+
+abbrev pub KeysOf : List ℕ → Slots → ℕ → Place → ℕ → Type 0
+KeysOf sig st = Stored (trees sig st)
+
+pub room-means : (T : Tables) (sig : List ℕ) (st : Slots) (t : List ℕ) (s N : ℕ) → Holds T sig st → refusal sig t ≡ 0 → st s ≡ none → Distinct (KeysOf sig (changed st s (some t))) N
+    → (roomFor (T .link) (T .label) (upsOf sig t) (endsOf sig t) ≡ true) ↔ (N ≤ 4096)
+room-means T sig st t s N h r e d =
+    ((λ q. let m = f .0 q in fits (decLt 4096 N) m), (λ q. f .1 (enough (decLt (frees (T .label)) M) q)))
+  where
+    S : Signed sig
+    S = subst Signed (h .signature) (signature-good (T .bytes))
+
+    w : Drawn sig t
+    w = drawn sig t S r
+
+    u : Tm
+    u = treeOf sig t
+
+    M : ℕ
+    M = missing (numList (T .link) (T .label) [] (upsT 0 0 u) (endsT u))
+
+    f : (roomFor (T .link) (T .label) (upsOf sig t) (endsOf sig t) ≡ true) ↔ (M ≤ frees (T .label))
+    f = room-frees T sig st t h w
+
+    seen : (a : ℕ) (P : Place) (x : ℕ) → KeysOf sig (changed st s (some t)) a P x ↔ Stored (put (trees sig st) s (some u)) a P x
+    seen a P x = ((λ (q : KeyIn (trees sig (changed st s (some t)) a) P x). subst (λ (o : Option Tm). KeyIn o P x) (sym (trees-changed sig st s (some t) a)) q),
+        (λ (q : KeyIn (put (trees sig st) s (some u) a) P x). subst (λ (o : Option Tm). KeyIn o P x) (trees-changed sig st s (some t) a) q))
+
+    d′ : Distinct (With (Stored (trees sig st)) s (keyList [] (upsT 0 0 u) (endsT u))) N
+    d′ = distinct-iff _ _ N (with-stored (trees sig st) s u (ap (treeIn sig) e) (w .fine)) (distinct-iff _ _ N seen d)
+
+    k : (frees (T .label) < M) ↔ (4096 < N)
+    k = keys-refused (T .link) (T .label) (mem (indexOf T .sets)) (Stored (trees sig st)) (h .index .rep) (h .index .full) s (keyList [] (upsT 0 0 u) (endsT u)) M N (fine-nodup u (w .fine))
+        (lack-of (T .label) _ _ (locatedKeys (T .link) (T .label) (mem (indexOf T .sets)) (Stored (trees sig st)) (h .index .rep) (upsT 0 0 u) (endsT u) [] [] tt (fine-back u (w .fine)) (w .fine .ends))) d′
+
+    fits : Dec (4096 < N) → M ≤ frees (T .label) → N ≤ 4096
+    fits (yes p) m = absurd (let z = k .1 p in omega (arith, z))
+    fits (no p) m = omega arith
+
+    enough : Dec (frees (T .label) < M) → N ≤ 4096 → M ≤ frees (T .label)
+    enough (yes p) q = absurd (let z = k .0 p in omega (arith, z))
+    enough (no p) q = omega arith
