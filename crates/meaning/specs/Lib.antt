@@ -1,3 +1,4 @@
 pub mod Holds
 pub mod Lists
 pub mod Counting
+pub mod Room
