@@ -2,3 +2,4 @@ pub mod Holds
 pub mod Lists
 pub mod Counting
 pub mod Room
+pub mod Keyed
