@@ -1,1 +1,5 @@
 pub mod Holds
+pub mod Lists
+pub mod Counting
+pub mod Room
+pub mod Keyed

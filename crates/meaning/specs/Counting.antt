@@ -1,0 +1,100 @@
+-- The number of distinct keys of a store is the number that the key table counts by; refusal 12.
+use Prim.Native.Nat.{ℕ, zero, suc, _+_, _-_, _*_, _≤_, _<_}
+use mathlib.Core.Path.{_≡_, refl, sym, ap, _∙_, subst}
+use mathlib.Core.Logic.{_⊎_, inl, inr, _↔_, ⊎-elim}
+use mathlib.Core.List.{List, [], _∷_, _++_, append-nil, map}
+use mathlib.Core.Bool.{Bool, true, false}
+use mathlib.Core.Option.{Option, some, none}
+use native.Mathlib.Omega.{arith}
+use native.Mathlib.Decide.{ℕ-discrete, decLt}
+use borrow.Author.Tests.{eq-eqb, ne-eqb}
+use lib.Dec.{eqb}
+use lib.ListN.{length, getD, take, length-map}
+use Rattle.laws.specs.Choice.{pick}
+use Rattle.laws.specs.Members.{In, NoDup, in-append, in-left, in-right}
+use Rattle.keys.specs.Keys.{Tm, Place, root, Key, key, HasKey}
+use Rattle.terms.specs.Terms.{Signed, refusal}
+use Rattle.definitions.specs.Trees.{treeOf, keysOf}
+use Rattle.definitions.specs.Spelt.{clash, keys-stand}
+use Rattle.definitions.specs.Decisions.{answer}
+use Rattle.definitions.specs.Store.{Store, key?, keysIn, keysFrom, keysHeld, isIn, distinct, keyCount, put}
+use Rattle.paths.specs.Insert.{RK, With}
+use Rattle.paths.specs.Store.{Stored, KeyIn}
+use Rattle.paths.specs.Count.{Distinct}
+use Rattle.meaning.specs.Holds.{treeIn, treesOf, Sound}
+
+-- the test of membership
+pub isIn-in : (K : Key) (l : List Key) → isIn K l ≡ true → In K l
+isIn-in K [] h = clash h
+isIn-in K (L ∷ l) h = go (key? K L) h (isIn-in K l)
+  where
+    go : (d : Dec (K ≡ L)) → pick (answer d) true (isIn K l) ≡ true → (isIn K l ≡ true → In K l) → (K ≡ L) ⊎ In K l
+    go (yes e) h ih = inl e
+    go (no n) h ih = inr (ih h)
+
+pub isIn-out : (K : Key) (l : List Key) → isIn K l ≡ false → In K l → ⊥
+isIn-out K [] h i = i
+isIn-out K (L ∷ l) h i = go (key? K L) h i (isIn-out K l)
+  where
+    go : (d : Dec (K ≡ L)) → pick (answer d) true (isIn K l) ≡ false → (K ≡ L) ⊎ In K l → (isIn K l ≡ false → In K l → ⊥) → ⊥
+    go (yes e) h i ih = clash (sym h)
+    go (no n) h (inl e) ih = n e
+    go (no n) h (inr i) ih = ih h i
+
+-- `distinct` has the keys of its list,
+pub distinct-in : (K : Key) (l : List Key) → In K (distinct l) ↔ In K l
+unfolding distinct
+distinct-in K [] = ((λ i. i), (λ i. i))
+distinct-in K (L ∷ l) = go (isIn L l) refl (distinct-in K l)
+  where
+    go : (b : Bool) → isIn L l ≡ b → In K (distinct l) ↔ In K l → In K (pick b (distinct l) (L ∷ distinct l)) ↔ ((K ≡ L) ⊎ In K l)
+    go true e ih = ((λ i. inr (ih .0 i)), (λ i. ⊎-elim (λ (q : K ≡ L). ih .1 (rw q (isIn-in L l e))) (ih .1) i))
+    go false e ih = ((λ i. ⊎-elim (λ (q : K ≡ L). inl q) (λ j. inr (ih .0 j)) i), (λ i. ⊎-elim (λ (q : K ≡ L). inl q) (λ j. inr (ih .1 j)) i))
+
+-- and none twice
+pub distinct-nodup : (l : List Key) → NoDup (distinct l)
+unfolding distinct
+distinct-nodup [] = tt
+distinct-nodup (L ∷ l) = go (isIn L l) refl (distinct-nodup l)
+  where
+    go : (b : Bool) → isIn L l ≡ b → NoDup (distinct l) → NoDup (pick b (distinct l) (L ∷ distinct l))
+    go true e d = d
+    go false e d = ((λ i. isIn-out L l e (distinct-in L l .0 i)), d)
+
+module _ (st : Store) where
+  -- a key of what a slot holds
+  in-keys : (o : Option (List ℕ)) (P : Place) (e : ℕ) → In (key P e) (keysIn (st .signature) o) ↔ KeyIn (treeIn (st .signature) o) P e
+  in-keys none P e = ((λ i. i), (λ i. i))
+  in-keys (some t) P e = keys-stand (st .signature) t (key P e)
+
+  keys-from : (k s : ℕ) (K : Key) → In K (keysFrom st k s) → (u : ℕ) × RK (Stored (treesOf st)) u K
+  unfolding keysFrom
+  keys-from zero s K h = absurd h
+  keys-from (suc k) s (key P e) h =
+      ⊎-elim (λ i. (s, in-keys (st .held s) P e .0 i)) (λ i. keys-from k (suc s) (key P e) i) (in-append (key P e) (keysIn (st .signature) (st .held s)) (keysFrom st k (suc s)) h)
+
+  into-keys : (k s : ℕ) (K : Key) (u : ℕ) → s ≤ u → u < s + k → RK (Stored (treesOf st)) u K → In K (keysFrom st k s)
+  unfolding keysFrom
+  into-keys zero s K u a b h = absurd (omega arith)
+  into-keys (suc k) s (key P e) u a b h = go (ℕ-discrete u s) (λ q. into-keys k (suc s) (key P e) u q (omega arith) h)
+    where
+      go : Dec (u ≡ s) → (suc s ≤ u → In (key P e) (keysFrom st k (suc s))) → In (key P e) (keysIn (st .signature) (st .held s) ++ keysFrom st k (suc s))
+      go (yes q) ih = in-left (key P e) (keysIn (st .signature) (st .held s)) (keysFrom st k (suc s)) (in-keys (st .held s) P e .1 (rw q at h))
+      go (no q) ih = in-right (key P e) (keysIn (st .signature) (st .held s)) (keysFrom st k (suc s)) (ih (omega arith))
+
+  slot-low : ((s : ℕ) → 512 ≤ s → st .held s ≡ none) → (u : ℕ) (K : Key) → RK (Stored (treesOf st)) u K → u < 512
+  slot-low b u (key P e) h = go (decLt u 512)
+    where
+      go : Dec (u < 512) → u < 512
+      go (yes l) = l
+      go (no l) = absurd (subst (λ (o : Option (List ℕ)). KeyIn (treeIn (st .signature) o) P e) (b u (omega arith)) h)
+
+  -- the distinct keys of the stored terms are as many as keyCount says
+  pub key-count : ((s : ℕ) → 512 ≤ s → st .held s ≡ none) → Distinct (Stored (treesOf st)) (keyCount st)
+  key-count b = record {
+    keys = distinct (keysHeld st);
+    nodup = distinct-nodup (keysHeld st);
+    from = λ K i. keys-from 512 0 K (distinct-in K (keysHeld st) .0 i);
+    into = λ u K h. distinct-in K (keysHeld st) .1 (into-keys 512 0 K u (omega arith) (omega (arith, slot-low b u K h)) h);
+    many = refl;
+  }

@@ -1,0 +1,96 @@
+-- The listings of sets of slots are the listings of stores, and the smallest free slot of the words is that of the store.
+use Prim.Native.Nat.{ℕ, zero, suc, _+_, _-_, _*_, _/_, _%_, _^_, _≤_, _<_}
+use mathlib.Core.Path.{_≡_, refl, sym, ap, _∙_}
+use mathlib.Core.Logic.{_↔_}
+use mathlib.Core.List.{List, [], _∷_, _++_}
+use mathlib.Core.Bool.{Bool, true, false}
+use native.Mathlib.Omega.{arith}
+use borrow.Author.Tests.{eq-eqb, ne-eqb, eqb-true, eqb-false, lt-ltb}
+use lib.Dec.{eqb, ltb}
+use lib.ListN.{length, getD}
+use Rattle.laws.specs.Choice.{pick}
+use Rattle.laws.specs.Digits.{bit}
+use Rattle.slots.specs.Slots.{has, others, words8, members, membersFrom, listed}
+use Rattle.slots.proofs.Laws.{getD-words8, bit-not}
+use Rattle.layout.specs.Layout.{usedOf, isUsed}
+use Rattle.definitions.specs.Spelt.{clash}
+use Rattle.definitions.specs.Store.{Store, slotsFrom, slotsWith, inUse, freeFrom, firstFree, listing}
+use Rattle.store.specs.Tables.{leastFrom, freeSlot}
+
+-- two tests that are true together
+pub same-test : (b c : Bool) → (b ≡ true) ↔ (c ≡ true) → b ≡ c
+same-test true true h = refl
+same-test true false h = clash (h .0 refl)
+same-test false true h = clash (h .1 refl)
+same-test false false h = refl
+
+-- a digit's test
+pub has-test : (n : ℕ) (c : Bool) → (n ≡ 1) ↔ (c ≡ true) → eqb n 1 ≡ c
+has-test n c h = same-test (eqb n 1) c ((λ e. h .0 (eqb-true n 1 e)), (λ e. eq-eqb n 1 (h .1 e)))
+
+members-from : (ws : List ℕ) (p : ℕ → Bool) (k s : ℕ) → ((x : ℕ) → s ≤ x → x < s + k → (has ws x ≡ 1) ↔ (p x ≡ true)) → membersFrom ws s k ≡ slotsFrom p k s
+unfolding membersFrom slotsFrom
+members-from ws p zero s h = refl
+members-from ws p (suc k) s h =
+    rw (has-test (has ws s) (p s) (h s (omega arith) (omega arith)), members-from ws p k (suc s) (λ x a b. h x (omega arith) (omega arith)))
+
+-- the members of a set are the slots that pass a test, where the set has just those
+pub members-slots : (ws : List ℕ) (p : ℕ → Bool) → ((s : ℕ) → s < 512 → (has ws s ≡ 1) ↔ (p s ≡ true)) → members ws ≡ slotsWith p
+unfolding members
+members-slots ws p h = members-from ws p 512 0 (λ x a b. h x (omega arith))
+
+-- words of eight, each as it was
+word-used : (u : List ℕ) (i : ℕ) → i < 8 → getD (usedOf u) i 0 ≡ getD u i 0
+unfolding usedOf
+word-used u i l = getD-words8 (λ j. getD u j 0) i l
+
+pub has-used : (u : List ℕ) (s : ℕ) → s < 512 → has (usedOf u) s ≡ has u s
+unfolding has
+has-used u s l = rw (word-used u (s / 64) (omega arith))
+
+-- a slot is among the others where it is not in the set; words are below 2^64
+pub has-others : (ws : List ℕ) (s : ℕ) → s < 512 → getD ws (s / 64) 0 < 2 ^ 64 → has (others ws) s ≡ 1 - has ws s
+unfolding has others
+has-others ws s l f = rw (getD-words8 (λ i. 2 ^ 64 - 1 - getD ws i 0) (s / 64) (omega arith)) (bit-not 64 (getD ws (s / 64) 0) (s % 64) f (omega arith))
+
+has-two : (ws : List ℕ) (s : ℕ) → has ws s < 2
+unfolding has
+has-two ws s = omega arith
+
+least-free : (ws : List ℕ) (st : Store) (k s : ℕ) → ((x : ℕ) → s ≤ x → x < s + k → eqb (has ws x) 1 ≡ pick (inUse st x) false true) → leastFrom ws s k ≡ freeFrom st k s
+unfolding leastFrom freeFrom
+least-free ws st zero s h = refl
+least-free ws st (suc k) s h =
+    let ih = least-free ws st k (suc s) (λ x a b. h x (omega arith) (omega arith)) in
+    rw (h s (omega arith) (omega arith), ih) (go (inUse st s) (freeFrom st k (suc s)))
+  where
+    go : (b : Bool) (n : ℕ) → pick (pick b false true) s n ≡ pick b n s
+    go true n = refl
+    go false n = refl
+
+-- the smallest slot that the words do not have is the smallest that the store does not use
+pub free-first : (u : List ℕ) (st : Store) → ((i : ℕ) → i < 8 → getD u i 0 < 2 ^ 64) → ((s : ℕ) → s < 512 → isUsed u s ≡ inUse st s) → freeSlot u ≡ firstFree st
+unfolding freeSlot isUsed
+free-first u st f h = least-free (others (usedOf u)) st 512 0 (λ x a b. at x (omega arith))
+  where
+    at : (x : ℕ) → x < 512 → eqb (has (others (usedOf u)) x) 1 ≡ pick (inUse st x) false true
+    at x l =
+        let i : x / 64 < 8 = omega arith in
+        let e = has-others (usedOf u) x l (rw (word-used u (x / 64) i) (f (x / 64) i)) in
+        rw (← h x l, lt-ltb x 512 l, e) (go (has (usedOf u) x) (has-two (usedOf u) x))
+      where
+        go : (n : ℕ) → n < 2 → eqb (1 - n) 1 ≡ pick (eqb n 1) false true
+        go zero l = refl
+        go (suc zero) l = refl
+        go (suc (suc n)) l = absurd (omega arith)
+
+-- listings
+pub listing-listed : (l : List ℕ) → listing l ≡ listed l
+unfolding listing listed
+listing-listed [] = refl
+listing-listed (s ∷ l) = rw (listing-listed l)
+
+pub listing-length : (l : List ℕ) → length (listing l) ≡ 2 * length l
+unfolding listing
+listing-length [] = refl
+listing-length (s ∷ l) = let h = listing-length l in omega arith
