@@ -1,3 +1,9 @@
 pub mod Candidates
+pub mod Formulas
+pub mod FormulasTable
+pub mod KeyBytes
+pub mod Linear
+pub mod LinearFlat
+pub mod LinearTrees
 pub mod Spelt
 pub mod Trees

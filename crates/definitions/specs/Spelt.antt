@@ -1,22 +1,21 @@
 -- Laws of Trees: the bytes that the term check takes are the terms, each spells one tree, and its parts spell the tree's parts.
-use Prim.Native.Nat.{ℕ, zero, suc, _+_, _-_, _*_, _/_, _%_, _≤_, _<_}
+use Prim.Native.Nat.{ℕ, zero, suc, _+_, _-_, _*_, _%_, _≤_, _<_}
 use mathlib.Core.Path.{_≡_, refl, sym, ap, _∙_}
 use mathlib.Core.Logic.{_⊎_, inl, inr, _↔_}
 use mathlib.Core.List.{List, [], _∷_, _++_, append-assoc, append-nil}
 use mathlib.Core.Bool.{Bool, true, false}
-use mathlib.Core.Option.{Option, some, none}
-use native.Mathlib.Nat.{add-zero, zero-add, suc-add, add-assoc}
+use mathlib.Core.Option.{some}
+use native.Mathlib.Nat.{add-zero, zero-add, suc-add}
 use native.Mathlib.Omega.{arith}
-use borrow.Author.Tests.{lt-ltb, le-ltb, le-leb, ltb-true, leb-true, eqb-true}
-use lib.Dec.{ltb, leb, eqb}
+use borrow.Author.Tests.{lt-ltb, le-leb, lt-leb, ltb-true, leb-true}
+use lib.Dec.{ltb, leb}
 use lib.ListN.{length, getD, take, drop, length-append, length-take, length-drop, List·getD-eq-default}
 use lib.Seq.{drop-drop}
 use Rattle.laws.specs.Choice.{pick}
 use Rattle.laws.specs.Members.{In, NoDup}
-use Rattle.keys.specs.Keys.{Tm, Args, node, nil, cons, nth, root, Key, keysT, size, sizes, HasKey, keys-length, keys-nodup, in-has, has-in}
-use Rattle.terms.specs.Terms.{numbers, span, declared, itemsGood, Signed, refusal, head, afterArgs, argRefusal, argBytes}
-use Rattle.terms.proofs.Laws.{Good, good, span-zero, span-add, all-taken, length-numbers, arg-none, items-step}
-use Rattle.theory.specs.Items.{Fine}
+use Rattle.keys.specs.Keys.{Tm, Args, node, nil, cons, nth, root, Key, endOf, size, sizes, HasKey, keys-length, keys-nodup, in-has, has-in}
+use Rattle.terms.specs.Terms.{numbers, span, declared, itemsGood, Signed, refusal, head, argRefusal, argBytes}
+use Rattle.terms.proofs.Laws.{Good, good, span-zero, all-taken, length-numbers, arg-none}
 use Rattle.theory.specs.Checked.{fine-good}
 use Rattle.definitions.specs.Trees.{count, itemsT, itemsA, Symbol, Variable, Shaped, Shapes, IsTerm, firsts, others, forest, top, treeOf, argsOf, keysOf}
 
@@ -76,10 +75,22 @@ items-parts zero us = refl
 items-parts (suc k) nil = refl
 items-parts (suc k) (cons u us) = rw (append-assoc, items-parts k us)
 
+pub clash : {A : Type 0} → false ≡ true → A
+clash h = absurd (let z : _≡_ {A = ℕ} 0 1 = cc in omega arith)
+
 -- a choice that is true took its first side
-taken : (b c : Bool) → pick b c false ≡ true → (b ≡ true) × (c ≡ true)
+pub taken : (b c : Bool) → pick b c false ≡ true → (b ≡ true) × (c ≡ true)
 taken true c h = (refl, h)
-taken false c h = absurd (let z : _≡_ {A = ℕ} 0 1 = cc in omega arith)
+taken false c h = clash h
+
+-- the end of a variable's path is the star, of a symbol's the symbol
+pub end-variable : (x : ℕ) → 32768 ≤ x → endOf x ≡ 256
+unfolding endOf
+end-variable x h = rw (le-leb 32768 x h)
+
+pub end-symbol : (x : ℕ) → x < 32768 → endOf x ≡ x
+unfolding endOf
+end-symbol x h = rw (lt-leb 32768 x h)
 
 module _ (sig : List ℕ) where
   shapes-firsts : (k : ℕ) (us : Args) → Shapes sig us → Shapes sig (firsts k us)

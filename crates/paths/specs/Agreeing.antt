@@ -1,21 +1,20 @@
 -- Document 01's table of candidates is what the walk through the tables finds: the definitions' `agree` against the walk's `Agree`.
-use Prim.Native.Nat.{ℕ, zero, suc, _≤_, _<_}
+use Prim.Native.Nat.{ℕ, _≤_, _<_}
 use mathlib.Core.Path.{_≡_, refl, sym, ap, _∙_}
 use mathlib.Core.Logic.{_⊎_, inl, inr, _↔_, ⊎-elim}
 use mathlib.Core.List.{List}
 use mathlib.Core.Bool.{Bool, true, false}
 use native.Mathlib.Omega.{arith}
-use borrow.Author.Tests.{le-leb, lt-leb, eqb-true, eqb-false, eq-eqb}
+use borrow.Author.Tests.{le-leb, lt-leb, eqb-true, eq-eqb}
 use lib.Dec.{T, leb, eqb}
-use lib.ListN.{length, getD}
+use lib.ListN.{getD}
 use Rattle.laws.specs.Choice.{pick}
 use Rattle.keys.specs.Keys.{Tm, Args, node, nil, cons, endOf}
 use Rattle.terms.specs.Terms.{Signed, refusal}
 use Rattle.definitions.specs.Trees.{count, Symbol, Variable, Shaped, Shapes, treeOf}
 use Rattle.definitions.specs.Candidates.{agree, agreeAll, opens, stars, candidate, isCandidate}
-use Rattle.definitions.specs.Spelt.{shaped-count, tree-shaped}
+use Rattle.definitions.specs.Spelt.{end-variable, end-symbol, shaped-count, tree-shaped}
 use Rattle.paths.specs.Cand.{Agree, Agrees}
-use Rattle.paths.specs.Spelt.{end-variable, end-symbol}
 
 false-true : {A : Type 0} → false ≡ true → A
 false-true h = absurd (let z : _≡_ {A = ℕ} 0 1 = cc in omega arith)

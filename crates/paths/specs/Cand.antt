@@ -1,21 +1,18 @@
 -- The candidate walk through the tables, and what it means.
-use Prim.Native.Nat.{ℕ, zero, suc, _+_, _-_, _*_, _/_, _%_, _≤_, _<_}
-use mathlib.Core.Path.{_≡_, refl, sym, ap, _∙_, subst}
+use Prim.Native.Nat.{ℕ, suc, _+_, _-_, _*_, _≤_, _<_}
+use mathlib.Core.Path.{_≡_, sym, ap, _∙_, subst}
 use mathlib.Core.Logic.{_⊎_, inl, inr, _↔_, ⊎-elim}
-use mathlib.Core.List.{List, [], _∷_, _++_}
+use mathlib.Core.List.{List}
 use mathlib.Core.Bool.{Bool, true, false}
-use mathlib.Core.Option.{Option, some, none}
+use mathlib.Core.Option.{Option, some}
 use native.Mathlib.Omega.{arith}
-use native.Mathlib.Decide.{ℕ-discrete, decLt}
 use native.Mathlib.Nat.{add-zero}
-use borrow.Author.Tests.{leb-true, leb-false}
 use lib.Dec.{T, leb}
-use lib.ListN.{length, getD}
 use Rattle.laws.specs.Choice.{pick}
 use Rattle.chains.specs.Chains.{find}
-use Rattle.keys.specs.Keys.{Place, root, step, Key, key, Tm, Args, node, nil, cons, endOf, HasKey, subAt, topOf, down, nth, down-some}
+use Rattle.keys.specs.Keys.{Place, step, key, Tm, Args, node, nil, cons, endOf, HasKey, subAt, topOf, down, nth, down-some}
 use Rattle.definitions.specs.Trees.{count}
-use Rattle.paths.specs.Rep.{lab, At, top, kid, Den, Rep, find-den, den-find, find-there}
+use Rattle.paths.specs.Rep.{lab, At, kid, Den, Rep, find-den, find-there}
 use Rattle.paths.specs.Store.{Stored, KeyIn}
 
 -- every symbol has as many arguments as its arity, at most eight, and is below 256
@@ -29,7 +26,7 @@ unfoldable mutual
 
 -- qv: a variable of the question agrees with anything; tv: a variable of the stored term does
 module _ (qv tv : Bool) where
-  -- document 01's table, on two terms
+  -- what the walk finds of two terms, by the ends of their paths: document 01's table (Agreeing shows that)
   unfoldable mutual
     pub Agree : Tm → Tm → Type 0
     Agree (node x us) (node y vs) = pick (leb 32768 x) (pick qv (Unit {0}) (endOf y ≡ 256)) ((T tv × (endOf y ≡ 256)) ⊎ ((endOf y ≡ endOf x) × Agrees us vs))

@@ -1,31 +1,21 @@
 -- What the walks ask of a term, shown of the bytes of a checked term and its tree.
-use Prim.Native.Nat.{ℕ, zero, suc, _+_, _≤_, _<_}
+use Prim.Native.Nat.{ℕ, suc, _+_, _≤_, _<_}
 use mathlib.Core.Path.{_≡_, refl, sym, ap, _∙_}
 use mathlib.Core.Logic.{_⊎_, inl, inr}
 use mathlib.Core.List.{List, [], _∷_, _++_, map}
 use native.Mathlib.Omega.{arith}
-use borrow.Author.Tests.{le-leb, lt-leb}
 use lib.ListN.{length, getD, List·getD-eq-default}
-use Rattle.laws.specs.Choice.{pick}
 use Rattle.keys.specs.Keys.{Tm, Args, node, nil, cons, endOf, size}
 use Rattle.terms.specs.Terms.{numbers, Signed, refusal}
 use Rattle.theory.specs.Items.{arity}
 use Rattle.definitions.specs.Trees.{count, itemsT, itemsA, Symbol, Variable, treeOf}
 use Rattle.definitions.specs.Trees as Trees
-use Rattle.definitions.specs.Spelt.{variable-arity, shaped-count, term-tree, term-tree-is, tree-shaped, tree-spells, size-items}
+use Rattle.definitions.specs.Spelt.{end-variable, end-symbol, shaped-count, term-tree, term-tree-is, tree-shaped, tree-spells, size-items}
 use Rattle.paths.specs.Walk.{upsT, endsT, endsA, Eight, Eights}
 use Rattle.paths.specs.Insert.{Ends}
 use Rattle.paths.specs.Store.{Fine}
 use Rattle.paths.specs.Ups.{upsF, Shaped, Shapes, ups-term}
 use Rattle.paths.specs.Cand.{Wf, Wfs}
-
-pub end-variable : (x : ℕ) → 32768 ≤ x → endOf x ≡ 256
-unfolding endOf
-end-variable x h = rw (le-leb 32768 x h)
-
-pub end-symbol : (x : ℕ) → x < 32768 → endOf x ≡ x
-unfolding endOf
-end-symbol x h = rw (lt-leb 32768 x h)
 
 map-append : (f : ℕ → ℕ) (l m : List ℕ) → map f (l ++ m) ≡ map f l ++ map f m
 map-append f [] m = refl

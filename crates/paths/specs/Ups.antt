@@ -1,9 +1,8 @@
 -- The ups of a term, read off its flat list of items with the ups that are still to come.
-use Prim.Native.Nat.{ℕ, zero, suc, _+_, _*_, _≤_, _<_}
-use mathlib.Core.Path.{_≡_, refl, sym, ap, _∙_}
+use Prim.Native.Nat.{ℕ, zero, suc, _+_, _*_}
+use mathlib.Core.Path.{_≡_, ap, _∙_}
 use mathlib.Core.List.{List, [], _∷_, _++_, append-assoc, append-nil}
 use native.Mathlib.Omega.{arith}
-use lib.ListN.{length, length-append}
 use Rattle.keys.specs.Keys.{Tm, Args, node, nil, cons, size, sizes}
 use Rattle.definitions.specs.Trees.{count, itemsT, itemsA}
 use Rattle.paths.specs.Walk.{upsT, upsA}
