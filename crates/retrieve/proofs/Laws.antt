@@ -31,7 +31,7 @@ use Rattle.candidates.specs.Has.{has-lt, none-has}
 use Rattle.retrieve.specs.declared.Retrieved.{Retrieved}
 use Rattle.retrieve.specs.declared.Solved.{Solved}
 use Rattle.retrieve.specs.Numbers.{number-some}
-use Rattle.retrieve.specs.Stands.{Related, Stands, Answers}
+use Rattle.retrieve.specs.Stands.{Stands, Answers}
 use Rattle.retrieve.specs.Retrieving.{candidatesOf, retrieving, Retrieving}
 use Rattle.retrieve.specs.Solving.{unsolvable, solvedBy, Solving}
 
@@ -44,7 +44,6 @@ decided-both b P Q f g d = record { holds = λ e. f (d .holds e); fails = λ e z
 
 module _ (r : ℕ) (sig t q : List ℕ) (b : Bool) where
   pub stands-equal : r ≡ 0 → refusal sig q ≡ 0 → Decided b (t ≡ q) → Decided b (Stands r sig t q)
-  unfolding Related
   stands-equal e h d = rw e (decided-both b (t ≡ q) _ (λ z. (rw z h, z)) (λ z. z .1) d)
 
   pub stands-no-term : b ≡ eqb (refusal sig t) 0 → b ≡ false → Decided false (Stands r sig t q)
@@ -55,22 +54,16 @@ module _ (r : ℕ) (sig t q : List ℕ) (b : Bool) where
     h = eqb-true (refusal sig t) 0 (sym i ∙ j)
 
     pub stands-variant : r ≡ 1 → Decided b (Variant q t) → Decided b (Stands r sig t q)
-    unfolding Related
     stands-variant e d = rw e (decided-both b (Variant q t) _ (λ z. (h, z)) (λ z. z .1) d)
 
     pub stands-instance : r ≡ 2 → Decided b (Instance sig q t) → Decided b (Stands r sig t q)
-    unfolding Related
     stands-instance e d = rw e (decided-both b (Instance sig q t) _ (λ z. (h, z)) (λ z. z .1) d)
 
     pub stands-general : r ≡ 3 → Decided b (Instance sig t q) → Decided b (Stands r sig t q)
-    unfolding Related
     stands-general e d = rw e (decided-both b (Instance sig t q) _ (λ z. (h, z)) (λ z. z .1) d)
 
     pub stands-unifiable : (r ≡ 0 → ⊥) → (r ≡ 1 → ⊥) → (r ≡ 2 → ⊥) → (r ≡ 3 → ⊥) → Decided b (Unifiable sig t q) → Decided b (Stands r sig t q)
-    unfolding Related
-    stands-unifiable n0 n1 n2 n3 d =
-        let e : r ≡ suc (suc (suc (suc (r - 4)))) = omega arith in
-        rw e (decided-both b (Unifiable sig t q) _ (λ z. (h, z)) (λ z. z .1) d)
+    stands-unifiable n0 n1 n2 n3 d = rw (ne-eqb r 0 n0, ne-eqb r 1 n1, ne-eqb r 2 n2, ne-eqb r 3 n3) (decided-both b (Unifiable sig t q) _ (λ z. (h, z)) (λ z. z .1) d)
 
 -- where the loop over the candidates stands: those before `slot` are decided, none is in from `slot` on
 pub record Confirming (bytes : List ℕ) (r : ℕ) (sig q cs ws : List ℕ) (slot : ℕ) : Type 0 where

@@ -1,3 +1,4 @@
+pub mod Means
 pub mod Numbers
 pub mod One
 pub mod Retrieving
