@@ -63,7 +63,14 @@ module _ (r : ℕ) (sig t q : List ℕ) (b : Bool) where
     stands-general e d = rw e (decided-both b (Instance sig t q) _ (λ z. (h, z)) (λ z. z .1) d)
 
     pub stands-unifiable : (r ≡ 0 → ⊥) → (r ≡ 1 → ⊥) → (r ≡ 2 → ⊥) → (r ≡ 3 → ⊥) → Decided b (Unifiable sig t q) → Decided b (Stands r sig t q)
-    stands-unifiable n0 n1 n2 n3 d = rw (ne-eqb r 0 n0, ne-eqb r 1 n1, ne-eqb r 2 n2, ne-eqb r 3 n3) (decided-both b (Unifiable sig t q) _ (λ z. (h, z)) (λ z. z .1) d)
+    stands-unifiable n0 n1 n2 n3 d = go r n0 n1 n2 n3
+      where
+        go : (k : ℕ) → (k ≡ 0 → ⊥) → (k ≡ 1 → ⊥) → (k ≡ 2 → ⊥) → (k ≡ 3 → ⊥) → Decided b (Stands k sig t q)
+        go zero a b c e = absurd (a refl)
+        go (suc zero) a b c e = absurd (b refl)
+        go (suc (suc zero)) a b c e = absurd (c refl)
+        go (suc (suc (suc zero))) a b c e = absurd (e refl)
+        go (suc (suc (suc (suc k)))) a b′ c e = decided-both b (Unifiable sig t q) _ (λ z. (h, z)) (λ z. z .1) d
 
 -- where the loop over the candidates stands: those before `slot` are decided, none is in from `slot` on
 pub record Confirming (bytes : List ℕ) (r : ℕ) (sig q cs ws : List ℕ) (slot : ℕ) : Type 0 where

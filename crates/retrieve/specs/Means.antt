@@ -12,7 +12,8 @@ use Rattle.keys.specs.Keys.{Tm}
 use Rattle.definitions.specs.Trees.{treeOf}
 use Rattle.definitions.specs.Candidates.{opens, stars, candidate, isCandidate}
 use Rattle.definitions.specs.Spelt.{tree-shaped}
-use Rattle.definitions.specs.Linear.{Answer, answer-candidate}
+use Rattle.definitions.specs.Relations.{Stands}
+use Rattle.definitions.specs.Linear.{answer-candidate}
 use Rattle.bank.specs.Bank.{four}
 use Rattle.walks.specs.Fill.{tables}
 use Rattle.walks.specs.Means.{GoodSt}
@@ -45,7 +46,7 @@ module _ (T : Tables) (st : ℕ → Option Tm) (h : Indexed T st) (r : ℕ) (q :
   candidates-exact s l = ((λ z. at-slot s l (in-use s l z) .0 z), (λ z. at-slot s l (z .0) .1 z))
 
   -- the answers: no slot whose term stands in the relation is missed
-  pub answers-exact : (ws : List ℕ) → r ≤ 4 → Answers (T .bytes) r (signatureOf (T .bytes)) q (candidatesOf T r q) ws → Same ws (λ s. (has (usedOf (T .used)) s ≡ 1) × Answer (signatureOf (T .bytes)) r q (termOf (T .bytes) s))
+  pub answers-exact : (ws : List ℕ) → r ≤ 4 → Answers (T .bytes) r (signatureOf (T .bytes)) q (candidatesOf T r q) ws → Same ws (λ s. (has (usedOf (T .used)) s ≡ 1) × Stands (signatureOf (T .bytes)) r (termOf (T .bytes) s) q)
   answers-exact ws k a s l = (
     (λ z. let y = a s l .0 z in (candidates-exact s l .0 (y .0) .0, y .1 .1)),
     (λ z. let sig = signatureOf (T .bytes) in let t = h .term s l (z .0) in a s l .1 (candidates-exact s l .1 (z .0, answer-candidate sig (signature-good (T .bytes)) q (termOf (T .bytes) s) f t r k (z .1)), (t, z .1))),

@@ -5,12 +5,12 @@ use mathlib.Core.Logic.{_↔_}
 use mathlib.Core.List.{List}
 use Rattle.slots.specs.Slots.{has}
 use Rattle.terms.specs.Terms.{refusal}
-use Rattle.definitions.specs.Linear.{Answer}
+use Rattle.definitions.specs.Relations.{Stands as Related}
 use Rattle.layout.specs.Layout.{termOf}
 
 -- bytes that are no term, as on memory that no opening made, answer nothing
 abbrev pub Stands : ℕ → List ℕ → List ℕ → List ℕ → Type 0
-Stands r sig t q = (refusal sig t ≡ 0) × Answer sig r q t
+Stands r sig t q = (refusal sig t ≡ 0) × Related sig r t q
 
 -- of the slots in cs, those whose term answers the question
 abbrev pub Answers : List ℕ → ℕ → List ℕ → List ℕ → List ℕ → List ℕ → Type 0
