@@ -1,36 +1,33 @@
 -- What is in the set that the walk leaves: the walk through the tables of paths/specs/Cand.antt, slot by slot.
-use Prim.Native.Nat.{ℕ, zero, suc, _+_, _-_, _*_, _/_, _%_, _^_, _≤_, _<_, min, max}
-use mathlib.Core.Path.{_≡_, refl, sym, ap, _∙_}
+use Prim.Native.Nat.{ℕ, zero, suc, _*_, _/_, _%_, _<_, min, max}
+use mathlib.Core.Path.{_≡_, refl}
 use mathlib.Core.Logic.{_⊎_, inl, inr, _↔_, ⊎-elim}
-use mathlib.Core.List.{List, [], _∷_}
+use mathlib.Core.List.{List}
 use mathlib.Core.Bool.{Bool, true, false}
 use native.Mathlib.Omega.{arith}
 use native.Mathlib.Decide.{ℕ-discrete, decLt}
 use native.Mathlib.Nat.{div-eq-of-lt}
-use borrow.Author.Tests.{leb-false, lt-ltb, le-ltb, eqb-true}
-use lib.Bits.{bitAnd, bitOr, and-zero-r, or-zero-r, or-add-and}
-use lib.Dec.{T, leb, ltb, eqb}
-use lib.ListN.{length, getD, replicate}
+use borrow.Author.Tests.{leb-false, lt-ltb, le-ltb}
+use lib.Bits.{bitAnd}
+use lib.Dec.{T, leb, ltb}
+use lib.ListN.{getD, replicate}
 use lib.Pow.{pow-pos}
 use Rattle.laws.specs.Choice.{pick}
 use Rattle.laws.specs.Digits.{bit, bit-and}
-use Rattle.slots.specs.Slots.{has, either, words8, noneIn}
+use Rattle.slots.specs.Slots.{has, either, words8}
 use Rattle.slots.proofs.Laws.{getD-words8, has-either}
 use Rattle.keys.specs.Keys.{Tm, Args, node, nil, cons, endOf}
 use Rattle.chains.specs.Chains.{find}
 use Rattle.bank.specs.Bank.{Sets, met, word, mem}
+use Rattle.definitions.specs.Spelt.{end-symbol}
 use Rattle.paths.specs.Rep.{lab}
 use Rattle.paths.specs.Cand.{At?, walkT, walkA}
 use Rattle.candidates.specs.Walk.{having, walk, walkAll}
 
-pub end-symbol : (x : ℕ) → leb 32768 x ≡ false → endOf x ≡ x
-unfolding endOf
-end-symbol x h = rw h
-
 zero-bit : (i : ℕ) → bit 0 i ≡ 0
 zero-bit i = rw (div-eq-of-lt (pow-pos i))
 
-none-has : (s : ℕ) → has (replicate 8 0) s ≡ 0
+pub none-has : (s : ℕ) → has (replicate 8 0) s ≡ 0
 unfolding has
 none-has s = go (s / 64)
   where
@@ -108,10 +105,36 @@ module _ (link label : List ℕ) (σ : Sets) (qv tv : Bool) where
             → (has (pick b (pick c ws B) (pick d (either A B) A)) s ≡ 1) ↔ pick b (pick c (W s) (W s × S)) ((T d × W s × S) ⊎ R)
         go true e true d w v r = w
         go true e false d w v r = v
-        go false e c true w v r = let g = r (end-symbol x e) in
+        go false e c true w v r = let g = r (end-symbol x (leb-false 32768 x e)) in
             ((λ z. ⊎-elim (λ y. inr (g .0 y)) (λ y. let k = v .0 y in inl (tt, k .0, k .1)) (either-has A B s l .0 z)), ⊎-elim (λ y. either-has A B s l .1 (inr (v .1 (y .1, y .2)))) (λ y. either-has A B s l .1 (inl (g .1 y))))
-        go false e c false w v r = let g = r (end-symbol x e) in ((λ z. inr (g .0 z)), ⊎-elim (λ y. absurd (y .0)) (λ y. g .1 y))
+        go false e c false w v r = let g = r (end-symbol x (leb-false 32768 x e)) in ((λ z. inr (g .0 z)), ⊎-elim (λ y. absurd (y .0)) (λ y. g .1 y))
 
     pub walkAll-has : (us : Args) (m : ℕ) (ws : List ℕ) (W : ℕ → Type 0) → Same ws W → Same (walkAll link label σ qv tv us m ws) (walkA qv tv link label (mem σ) us m W)
     walkAll-has nil m ws W h s l = h s l
     walkAll-has (cons u us) m ws W h s l = walkAll-has us (suc m) (walk link label σ qv tv u m ws) (λ s. walkT qv tv link label (mem σ) u m W s) (λ i k. walk-has u m ws W h i k) s l
+
+  mutual
+    unfolding walk
+
+    -- nothing comes in
+    pub walk-in : (q : Tm) (n : ℕ) (ws : List ℕ) (s : ℕ) → s < 512 → has (walk link label σ qv tv q n ws) s ≡ 1 → has ws s ≡ 1
+    walk-in (node x us) n ws s l h = go (leb 32768 x) qv tv h (λ z. walkAll-in us (find link label (lab n x) * 8) (having link label σ n x ws) s l z)
+      where
+        A : List ℕ
+        A = walkAll link label σ qv tv us (find link label (lab n x) * 8) (having link label σ n x ws)
+
+        B : List ℕ
+        B = having link label σ n 256 ws
+
+        from : (e : ℕ) → has (having link label σ n e ws) s ≡ 1 → has ws s ≡ 1
+        from e z = met-has σ (find link label (lab n e)) ws s l .0 z .0
+
+        go : (b c d : Bool) → has (pick b (pick c ws B) (pick d (either A B) A)) s ≡ 1 → (has A s ≡ 1 → has (having link label σ n x ws) s ≡ 1) → has ws s ≡ 1
+        go true true d z f = z
+        go true false d z f = from 256 z
+        go false c true z f = ⊎-elim (λ y. from x (f y)) (λ y. from 256 y) (either-has A B s l .0 z)
+        go false c false z f = from x (f z)
+
+    walkAll-in : (us : Args) (m : ℕ) (ws : List ℕ) (s : ℕ) → s < 512 → has (walkAll link label σ qv tv us m ws) s ≡ 1 → has ws s ≡ 1
+    walkAll-in nil m ws s l h = h
+    walkAll-in (cons u us) m ws s l h = walk-in u m ws s l (walkAll-in us (suc m) (walk link label σ qv tv u m ws) s l h)

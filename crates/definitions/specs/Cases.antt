@@ -1,29 +1,28 @@
--- Document 01, 'Both sides of the edges': P1 to P12 as one table, and the proof that the definitions say what it says.
-use Prim.Native.Nat.{ℕ}
+-- Document 01, 'Both sides of the edges': P1 to P12 as one table, the size limit, and the proof that the definitions say so.
+use Prim.Native.Nat.{ℕ, zero, suc, _+_, _≤_, _<_}
 use native.Mathlib.Decide.{ℕ-discrete, decLe}
 use native.Mathlib.Omega.{arith}
 use mathlib.Core.Path.{_≡_, refl}
 use mathlib.Core.Bool.{Bool, true, false}
 use mathlib.Core.Option.{Option, some, none}
 use mathlib.Core.List.{List, [], _∷_}
-use lib.Dec.{eqb}
-use borrow.Author.Tests.{eqb-true}
+use lib.Dec.{eqb, leb}
+use lib.ListN.{length}
+use borrow.Author.Tests.{eqb-true, leb-true}
 use Rattle.laws.specs.Choice.{pick}
 use Rattle.terms.specs.Terms.{numbers, span, declared, itemsGood, aritiesGood, sigRefusal, refusal}
 use Rattle.theory.specs.Subst.{in?}
-use Rattle.theory.specs.Unify.{one}
-use Rattle.theory.specs.Items.{codes, moved}
-use Rattle.theory.specs.Solver.{solution, solve, by-free, by-size, step, face, face-var, face-bound, var-symbol, var-var, once-cases, at-bind, at-swap, at-follow, terms?}
+use Rattle.theory.specs.Flat.{Item}
+use Rattle.theory.specs.Unify.{Bind, full, one}
+use Rattle.theory.specs.Checked.{fine}
+use Rattle.theory.specs.Items.{arity, items, shift, codes, moved}
+use Rattle.theory.specs.Solver.{solution, Solution, solve, by-free, by-size, step, face, face-var, face-bound, var-symbol, var-var, once-cases, at-bind, at-swap, at-follow, terms?}
 use Rattle.theory.specs.Matcher.{matcher, matching, against, items?, item?}
 use Rattle.definitions.specs.Trees.{forest, firsts, others, top, treeOf}
 use Rattle.definitions.specs.Candidates.{agree, agreeAll, candidate, isCandidate}
 use Rattle.definitions.specs.Relations.{Stands}
-use Rattle.definitions.specs.Records.{IsRecord, recordOf, listedFrom, bytes, fieldBytes, written}
-use Rattle.definitions.specs.Decisions.{same?, answer, stands, stands-right, bindings?, record?, Record?, record-right}
-
--- a=0 and b=1 of arity 0, f=2 of arity 2, g=3 of arity 1
-abbrev pub signature : List ℕ
-signature = 0 ∷ 0 ∷ 2 ∷ 1 ∷ []
+use Rattle.definitions.specs.Records.{Unifier, Short, IsRecord, recordOf, listedFrom, bytes, fieldBytes, written}
+use Rattle.definitions.specs.Decisions.{same?, answer, stands, stands-right, bindings?, bindings-right, record?, Record?, record-right}
 
 -- what is said of a stored term and a question
 pub data Claim : Type 0 where
@@ -32,31 +31,40 @@ pub data Claim : Type 0 where
   answers : ℕ → Claim
   fails : ℕ → Claim
   writes : List ℕ → Claim
+  valued : ℕ → ℕ → Claim
+  fits : Claim
   refused : ℕ → Claim
 
-abbrev pub Holds : List ℕ → List ℕ → Claim → Type 0
+abbrev pub Holds : List ℕ → List ℕ → List ℕ → Claim → Type 0
 -- the stored term is a candidate of relation r, or is none
-Holds t q (stays r) = isCandidate signature r q t ≡ true
-Holds t q (drops r) = isCandidate signature r q t ≡ false
+Holds sig t q (stays r) = isCandidate sig r q t ≡ true
+Holds sig t q (drops r) = isCandidate sig r q t ≡ false
 -- it is an answer of relation r, or is none
-Holds t q (answers r) = Stands signature r t q
-Holds t q (fails r) = Stands signature r t q → ⊥
+Holds sig t q (answers r) = Stands sig r t q
+Holds sig t q (fails r) = Stands sig r t q → ⊥
 -- the record's bytes
-Holds t q (writes w) = IsRecord signature t q w
+Holds sig t q (writes w) = IsRecord sig t q w
+-- the value of the written variable y has n items; no value has over 2,048
+Holds sig t q (valued y n) = (θ : ℕ → List Item) × Unifier sig (items t) (shift 32 (items q)) θ × (length (θ y) ≡ n)
+Holds sig t q fits = (θ : ℕ → List Item) × Unifier sig (items t) (shift 32 (items q)) θ × Short θ
 -- the number of the refusal of the stored term's bytes
-Holds t q (refused n) = refusal signature t ≡ n
+Holds sig t q (refused n) = refusal sig t ≡ n
 
 -- P of the number, the stored term, the question, what is said of them
 pub data Case : Type 0 where
   P : ℕ → List ℕ → List ℕ → List Claim → Case
 
-abbrev pub All : List ℕ → List ℕ → List Claim → Type 0
-All t q [] = Unit {0}
-All t q (c ∷ cs) = Holds t q c × All t q cs
+abbrev pub All : List ℕ → List ℕ → List ℕ → List Claim → Type 0
+All sig t q [] = Unit {0}
+All sig t q (c ∷ cs) = Holds sig t q c × All sig t q cs
 
-abbrev pub Table : List Case → Type 0
-Table [] = Unit {0}
-Table (P n t q cs ∷ ps) = All t q cs × Table ps
+abbrev pub Table : List ℕ → List Case → Type 0
+Table sig [] = Unit {0}
+Table sig (P n t q cs ∷ ps) = All sig t q cs × Table sig ps
+
+-- a=0 and b=1 of arity 0, f=2 of arity 2, g=3 of arity 1
+abbrev pub signature : List ℕ
+signature = 0 ∷ 0 ∷ 2 ∷ 1 ∷ []
 
 -- every item is two bytes: 0,s is symbol s and 128,v is variable v
 abbrev pub cases : List Case
@@ -85,35 +93,32 @@ cases =
     ∷ P 12 (0 ∷ 2 ∷ 128 ∷ 0 ∷ 0 ∷ 2 ∷ 128 ∷ 0 ∷ 128 ∷ 1 ∷ []) (0 ∷ 2 ∷ 0 ∷ 2 ∷ 128 ∷ 0 ∷ 128 ∷ 1 ∷ 0 ∷ 2 ∷ 128 ∷ 1 ∷ 128 ∷ 0 ∷ []) (fails 4 ∷ [])
     ∷ []
 
+-- the size limit: a=0 of arity 0, e=1 of arity 8, p=2 of arity 5, h=3 of arity 7 or 8
+abbrev pub wide : ℕ → List ℕ
+wide n = 0 ∷ 8 ∷ 5 ∷ n ∷ []
+
+-- v eight times
+abbrev eight : ℕ → List ℕ → List ℕ
+eight v r = 128 ∷ v ∷ 128 ∷ v ∷ 128 ∷ v ∷ 128 ∷ v ∷ 128 ∷ v ∷ 128 ∷ v ∷ 128 ∷ v ∷ 128 ∷ v ∷ r
+
+-- p(x0, e(x0 eight times), x1, x2, h(x1,x1,x1,x2,x2,x2,x2 and what follows))
+abbrev pub grown : List ℕ → List ℕ
+grown r = 0 ∷ 2 ∷ 128 ∷ 0 ∷ 0 ∷ 1 ∷ eight 0 (128 ∷ 1 ∷ 128 ∷ 2 ∷ 0 ∷ 3 ∷ 128 ∷ 1 ∷ 128 ∷ 1 ∷ 128 ∷ 1 ∷ 128 ∷ 2 ∷ 128 ∷ 2 ∷ 128 ∷ 2 ∷ 128 ∷ 2 ∷ r)
+
+-- p(e(x0 eight times), x1, e(x1 eight times), x1, x2)
+abbrev pub asking : List ℕ
+asking = 0 ∷ 2 ∷ 0 ∷ 1 ∷ eight 0 (128 ∷ 1 ∷ 0 ∷ 1 ∷ eight 1 (128 ∷ 1 ∷ 128 ∷ 2 ∷ []))
+
+-- question variable 2 is written 34: its value has 2,048 items and no value has more; with an eighth argument a in h it has 2,049
+abbrev pub Limit : Type 0
+Limit = All (wide 7) (grown []) asking (valued 34 2048 ∷ fits ∷ []) × All (wide 8) (grown (0 ∷ 0 ∷ [])) asking (valued 34 2049 ∷ [])
+
 -- the proof: each claim is decided, and what is decided holds
 abbrev both : Bool → Bool → Bool
 both a b = pick a b false
 
 abbrev opposite : Bool → Bool
 opposite a = pick a false true
-
-abbrev taken : List ℕ → List ℕ → Bool
-taken t q = both (eqb (refusal signature t) 0) (eqb (refusal signature q) 0)
-
-abbrev is : Option (List ℕ) → List ℕ → Bool
-is none w = false
-is (some v) w = answer (same? v w)
-
-abbrev check : List ℕ → List ℕ → Claim → Bool
-check t q (stays r) = isCandidate signature r q t
-check t q (drops r) = opposite (isCandidate signature r q t)
-check t q (answers r) = both (taken t q) (stands signature r t q)
-check t q (fails r) = both (taken t q) (opposite (stands signature r t q))
-check t q (writes w) = both (taken t q) (is (record? signature t q) w)
-check t q (refused n) = eqb (refusal signature t) n
-
-checkAll : List ℕ → List ℕ → List Claim → Bool
-checkAll t q [] = true
-checkAll t q (c ∷ cs) = both (check t q c) (checkAll t q cs)
-
-checkTable : List Case → Bool
-checkTable [] = true
-checkTable (P n t q cs ∷ ps) = both (checkAll t q cs) (checkTable ps)
 
 both-true : (a b : Bool) → both a b ≡ true → (a ≡ true) × (b ≡ true)
 both-true true b h = (refl, h)
@@ -123,46 +128,110 @@ opposite-true : (a : Bool) → opposite a ≡ true → a ≡ false
 opposite-true true h = absurd (let z : _≡_ {A = ℕ} 0 1 = cc in omega arith)
 opposite-true false h = refl
 
-signature-taken : sigRefusal signature ≡ 0
-unfolding sigRefusal aritiesGood
-signature-taken = refl
+abbrev is : Option (List ℕ) → List ℕ → Bool
+is none w = false
+is (some v) w = answer (same? v w)
 
-both-taken : (t q : List ℕ) → taken t q ≡ true → (refusal signature t ≡ 0) × (refusal signature q ≡ 0)
-both-taken t q e = let h = both-true (eqb (refusal signature t) 0) (eqb (refusal signature q) 0) e in (eqb-true (refusal signature t) 0 (h .0), eqb-true (refusal signature q) 0 (h .1))
+abbrev long : ℕ → ℕ → Option (List Bind) → Bool
+long y n none = false
+long y n (some B) = eqb (length (full B y)) n
 
-record-is : (t q w : List ℕ) (o : Option (List ℕ)) → Record? signature t q o → is o w ≡ true → IsRecord signature t q w
-record-is t q w none r e = absurd (let z : _≡_ {A = ℕ} 0 1 = cc in omega arith)
-record-is t q w (some v) r e = go (same? v w) e
+shortFrom : (ℕ → List Item) → ℕ → ℕ → Bool
+shortFrom θ zero y = true
+shortFrom θ (suc k) y = both (leb (length (θ y)) 2048) (shortFrom θ k (y + 1))
+
+short-from : (θ : ℕ → List Item) (k y : ℕ) → shortFrom θ k y ≡ true → (z : ℕ) → y ≤ z → z < y + k → length (θ z) ≤ 2048
+unfolding shortFrom
+short-from θ zero y e z a b = absurd (omega arith)
+short-from θ (suc k) y e z a b = let h = both-true (leb (length (θ y)) 2048) (shortFrom θ k (y + 1)) e in go (ℕ-discrete y z) (h .0) (short-from θ k (y + 1) (h .1) z)
   where
-    go : (d : Dec (v ≡ w)) → answer d ≡ true → IsRecord signature t q w
-    go (yes p) h = rw p at r
-    go (no n) h = absurd (let z : _≡_ {A = ℕ} 0 1 = cc in omega arith)
+    go : Dec (y ≡ z) → leb (length (θ y)) 2048 ≡ true → (y + 1 ≤ z → z < y + 1 + k → length (θ z) ≤ 2048) → length (θ z) ≤ 2048
+    go (yes p) h ih = rw (← p) (leb-true (length (θ y)) 2048 h)
+    go (no n) h ih = ih (omega (arith, n)) (omega arith)
 
-holds : (t q : List ℕ) (c : Claim) → check t q c ≡ true → Holds t q c
-holds t q (stays r) e = e
-holds t q (drops r) e = opposite-true (isCandidate signature r q t) e
-holds t q (answers r) e =
-    let h = both-true (taken t q) (stands signature r t q) e in
-    let a = both-taken t q (h .0) in stands-right signature r t q signature-taken (a .0) (a .1) .holds (h .1)
-holds t q (fails r) e =
-    let h = both-true (taken t q) (opposite (stands signature r t q)) e in
-    let a = both-taken t q (h .0) in stands-right signature r t q signature-taken (a .0) (a .1) .fails (opposite-true (stands signature r t q) (h .1))
-holds t q (writes w) e =
-    let h = both-true (taken t q) (is (record? signature t q) w) e in
-    let a = both-taken t q (h .0) in record-is t q w (record? signature t q) (record-right signature t q signature-taken (a .0) (a .1)) (h .1)
-holds t q (refused n) e = eqb-true (refusal signature t) n e
+abbrev short : Option (List Bind) → Bool
+short none = false
+short (some B) = shortFrom (full B) 64 0
 
-all-hold : (t q : List ℕ) (cs : List Claim) → checkAll t q cs ≡ true → All t q cs
-unfolding checkAll
-all-hold t q [] e = tt
-all-hold t q (c ∷ cs) e = let h = both-true (check t q c) (checkAll t q cs) e in (holds t q c (h .0), all-hold t q cs (h .1))
+module _ (sig : List ℕ) where
+  abbrev taken : List ℕ → List ℕ → Bool
+  taken t q = both (eqb (refusal sig t) 0) (eqb (refusal sig q) 0)
 
-table-holds : (ps : List Case) → checkTable ps ≡ true → Table ps
-unfolding checkTable
-table-holds [] e = tt
-table-holds (P n t q cs ∷ ps) e = let h = both-true (checkAll t q cs) (checkTable ps) e in (all-hold t q cs (h .0), table-holds ps (h .1))
+  abbrev check : List ℕ → List ℕ → Claim → Bool
+  check t q (stays r) = isCandidate sig r q t
+  check t q (drops r) = opposite (isCandidate sig r q t)
+  check t q (answers r) = both (taken t q) (stands sig r t q)
+  check t q (fails r) = both (taken t q) (opposite (stands sig r t q))
+  check t q (writes w) = both (taken t q) (is (record? sig t q) w)
+  check t q (valued y n) = both (taken t q) (long y n (bindings? sig t q))
+  check t q fits = both (taken t q) (short (bindings? sig t q))
+  check t q (refused n) = eqb (refusal sig t) n
+
+  checkAll : List ℕ → List ℕ → List Claim → Bool
+  checkAll t q [] = true
+  checkAll t q (c ∷ cs) = both (check t q c) (checkAll t q cs)
+
+  checkTable : List Case → Bool
+  checkTable [] = true
+  checkTable (P n t q cs ∷ ps) = both (checkAll t q cs) (checkTable ps)
+
+  record-is : (t q w : List ℕ) (o : Option (List ℕ)) → Record? sig t q o → is o w ≡ true → IsRecord sig t q w
+  record-is t q w none r e = absurd (let z : _≡_ {A = ℕ} 0 1 = cc in omega arith)
+  record-is t q w (some v) r e = go (same? v w) e
+    where
+      go : (d : Dec (v ≡ w)) → answer d ≡ true → IsRecord sig t q w
+      go (yes p) h = rw p at r
+      go (no n) h = absurd (let z : _≡_ {A = ℕ} 0 1 = cc in omega arith)
+
+  abbrev Solved : List ℕ → List ℕ → Option (List Bind) → Type 0
+  Solved t q o = Solution (arity sig) (items t) (shift 32 (items q)) o
+
+  long-is : (t q : List ℕ) (y n : ℕ) (o : Option (List Bind)) → Solved t q o → long y n o ≡ true → Holds sig t q (valued y n)
+  long-is t q y n none h e = absurd (let z : _≡_ {A = ℕ} 0 1 = cc in omega arith)
+  long-is t q y n (some B) h e = (full B, record { mgu = h .1; least = h .2 }, eqb-true (length (full B y)) n e)
+
+  short-is : (t q : List ℕ) (o : Option (List Bind)) → Solved t q o → short o ≡ true → Holds sig t q fits
+  short-is t q none h e = absurd (let z : _≡_ {A = ℕ} 0 1 = cc in omega arith)
+  short-is t q (some B) h e = (full B, record { mgu = h .1; least = h .2 }, λ y b. short-from (full B) 64 0 e y (omega arith) (omega arith))
+
+  module _ (s : sigRefusal sig ≡ 0) where
+    with-taken : (t q : List ℕ) (b : Bool) → both (taken t q) b ≡ true → (refusal sig t ≡ 0) × (refusal sig q ≡ 0) × (b ≡ true)
+    with-taken t q b e =
+        let h = both-true (taken t q) b e in
+        let k = both-true (eqb (refusal sig t) 0) (eqb (refusal sig q) 0) (h .0) in (eqb-true (refusal sig t) 0 (k .0), eqb-true (refusal sig q) 0 (k .1), h .1)
+
+    holds : (t q : List ℕ) (c : Claim) → check t q c ≡ true → Holds sig t q c
+    holds t q (stays r) e = e
+    holds t q (drops r) e = opposite-true (isCandidate sig r q t) e
+    holds t q (answers r) e = let h = with-taken t q (stands sig r t q) e in stands-right sig r t q s (h .0) (h .1) .holds (h .2)
+    holds t q (fails r) e =
+        let h = with-taken t q (opposite (stands sig r t q)) e in stands-right sig r t q s (h .0) (h .1) .fails (opposite-true (stands sig r t q) (h .2))
+    holds t q (writes w) e =
+        let h = with-taken t q (is (record? sig t q) w) e in record-is t q w (record? sig t q) (record-right sig t q s (h .0) (h .1)) (h .2)
+    holds t q (valued y n) e =
+        let h = with-taken t q (long y n (bindings? sig t q)) e in
+        long-is t q y n (bindings? sig t q) (bindings-right sig t q (fine sig t s (h .0)) (fine sig q s (h .1))) (h .2)
+    holds t q fits e =
+        let h = with-taken t q (short (bindings? sig t q)) e in
+        short-is t q (bindings? sig t q) (bindings-right sig t q (fine sig t s (h .0)) (fine sig q s (h .1))) (h .2)
+    holds t q (refused n) e = eqb-true (refusal sig t) n e
+
+    all-hold : (t q : List ℕ) (cs : List Claim) → checkAll t q cs ≡ true → All sig t q cs
+    unfolding checkAll
+    all-hold t q [] e = tt
+    all-hold t q (c ∷ cs) e = let h = both-true (check t q c) (checkAll t q cs) e in (holds t q c (h .0), all-hold t q cs (h .1))
+
+    table-holds : (ps : List Case) → checkTable ps ≡ true → Table sig ps
+    unfolding checkTable
+    table-holds [] e = tt
+    table-holds (P n t q cs ∷ ps) e = let h = both-true (checkAll t q cs) (checkTable ps) e in (all-hold t q cs (h .0), table-holds ps (h .1))
 
 -- P1 to P12 hold of the definitions
-pub cases-hold : Table cases
-unfolding checkTable checkAll refusal numbers span declared itemsGood isCandidate candidate agree agreeAll treeOf forest firsts others top stands bindings? record? solution solve by-free by-size step face face-var face-bound var-symbol var-var in? once-cases ℕ-discrete one at-bind at-swap at-follow decLe terms? codes moved matcher matching against items? item? same? recordOf listedFrom bytes fieldBytes written
-cases-hold = table-holds cases refl
+pub cases-hold : Table signature cases
+unfolding checkTable checkAll sigRefusal aritiesGood refusal numbers span declared itemsGood isCandidate candidate agree agreeAll treeOf forest firsts others top stands bindings? record? solution solve by-free by-size step face face-var face-bound var-symbol var-var in? once-cases ℕ-discrete one at-bind at-swap at-follow decLe terms? codes moved matcher matching against items? item? same? recordOf listedFrom bytes fieldBytes written
+cases-hold = table-holds signature refl cases refl
+
+-- and so does the size limit
+pub limit-holds : Limit
+unfolding checkAll shortFrom sigRefusal aritiesGood refusal span declared itemsGood bindings? solution solve by-free by-size step face face-var face-bound var-symbol var-var in? once-cases ℕ-discrete one at-bind at-swap at-follow decLe terms? codes moved
+limit-holds = (all-hold (wide 7) refl (grown []) asking (valued 34 2048 ∷ fits ∷ []) refl, all-hold (wide 8) refl (grown (0 ∷ 0 ∷ [])) asking (valued 34 2049 ∷ []) refl)

@@ -2,20 +2,20 @@
 use Prim.Native.Nat.{ℕ, zero, suc}
 use native.Mathlib.Decide.{ℕ-discrete}
 use native.Mathlib.Omega.{arith}
-use mathlib.Core.Path.{_≡_, refl}
+use mathlib.Core.Path.{_≡_, refl, ap}
 use mathlib.Core.Bool.{Bool, true, false}
 use mathlib.Core.Option.{Option, some, none}
 use mathlib.Core.List.{List, [], _∷_}
 use Rattle.terms.specs.Terms.{refusal, sigRefusal}
 use Rattle.theory.specs.Flat.{Item}
 use Rattle.theory.specs.Unify.{Bind, full}
-use Rattle.theory.specs.Items.{arity, items, shift, shift-terms}
+use Rattle.theory.specs.Items.{arity, items, shift, shift-terms, Fine}
 use Rattle.theory.specs.Checked.{fine}
 use Rattle.theory.specs.Relations.{Decided, decided-yes, decided-no, Unifies, Unifiable}
 use Rattle.theory.specs.Solver.{solution, Solution, solution-right}
 use Rattle.theory.specs.Matcher.{matcher, bound, named, turns-right, renames-right}
 use Rattle.definitions.specs.Relations.{Stands}
-use Rattle.definitions.specs.Records.{recordOf, IsRecord}
+use Rattle.definitions.specs.Records.{recordOf, IsRecord, one-record}
 
 -- the same bytes
 unfoldable pub same? : (s t : List ℕ) → Dec (s ≡ t)
@@ -49,11 +49,9 @@ stands sig (suc (suc zero)) t q = bound (arity sig) (matcher (arity sig) (items 
 stands sig (suc (suc (suc zero))) t q = bound (arity sig) (matcher (arity sig) (items t) (items q))
 stands sig (suc (suc (suc (suc r)))) t q = bound (arity sig) (bindings? sig t q)
 
-pub bindings-right : (sig t q : List ℕ) → sigRefusal sig ≡ 0 → refusal sig t ≡ 0 → refusal sig q ≡ 0
-    → Solution (arity sig) (items t) (shift 32 (items q)) (bindings? sig t q)
+pub bindings-right : (sig t q : List ℕ) → Fine sig t → Fine sig q → Solution (arity sig) (items t) (shift 32 (items q)) (bindings? sig t q)
 unfolding bindings?
-bindings-right sig t q s a b =
-    solution-right (arity sig) (items t) (shift 32 (items q)) (fine sig t s a .term) (shift-terms (arity sig) 32 1 (items q) (fine sig q s b .term))
+bindings-right sig t q a b = solution-right (arity sig) (items t) (shift 32 (items q)) (a .term) (shift-terms (arity sig) 32 1 (items q) (b .term))
 
 unifies-right : (ar : ℕ → ℕ) (s t : List Item) (o : Option (List Bind)) → Solution ar s t o → Decided (bound ar o) (Unifies ar s t)
 unifies-right ar s t (some B) h = decided-yes (record { by = full B; sub = h .1 .sub; same = h .1 .unifies })
@@ -66,7 +64,7 @@ stands-right sig zero t q s a b = answer-right (same? t q)
 stands-right sig (suc zero) t q s a b = renames-right (arity sig) (items q) (items t) (fine sig q s b .term) (fine sig t s a .term)
 stands-right sig (suc (suc zero)) t q s a b = turns-right (arity sig) (items q) (items t) (fine sig q s b .term) (fine sig t s a .term)
 stands-right sig (suc (suc (suc zero))) t q s a b = turns-right (arity sig) (items t) (items q) (fine sig t s a .term) (fine sig q s b .term)
-stands-right sig (suc (suc (suc (suc r)))) t q s a b = unifies-right (arity sig) (items t) (shift 32 (items q)) (bindings? sig t q) (bindings-right sig t q s a b)
+stands-right sig (suc (suc (suc (suc r)))) t q s a b = unifies-right (arity sig) (items t) (shift 32 (items q)) (bindings? sig t q) (bindings-right sig t q (fine sig t s a) (fine sig q s b))
 
 -- the record of a stored term and a question, where they unify
 abbrev pub recorded : Option (List Bind) → Option (List ℕ)
@@ -80,11 +78,22 @@ abbrev pub Record? : List ℕ → List ℕ → List ℕ → Option (List ℕ) �
 Record? sig t q (some w) = IsRecord sig t q w
 Record? sig t q none = Unifiable sig t q → ⊥
 
--- it is computed rightly: there is a record exactly where the two unify
-pub record-right : (sig t q : List ℕ) → sigRefusal sig ≡ 0 → refusal sig t ≡ 0 → refusal sig q ≡ 0 → Record? sig t q (record? sig t q)
+pub record-fine : (sig t q : List ℕ) → Fine sig t → Fine sig q → Record? sig t q (record? sig t q)
 unfolding record?
-record-right sig t q s a b = go (bindings? sig t q) (bindings-right sig t q s a b)
+record-fine sig t q a b = go (bindings? sig t q) (bindings-right sig t q a b)
   where
     go : (o : Option (List Bind)) → Solution (arity sig) (items t) (shift 32 (items q)) o → Record? sig t q (recorded o)
     go (some B) h = record { by = full B; unifier = record { mgu = h .1; least = h .2 }; is = refl }
     go none h = λ u. h (u .by) (u .sub) (u .same)
+
+-- it is computed rightly: there is a record exactly where the two unify
+pub record-right : (sig t q : List ℕ) → sigRefusal sig ≡ 0 → refusal sig t ≡ 0 → refusal sig q ≡ 0 → Record? sig t q (record? sig t q)
+record-right sig t q s a b = record-fine sig t q (fine sig t s a) (fine sig q s b)
+
+-- and any record is the one that is computed
+pub record-only : (sig t q : List ℕ) → Fine sig t → Fine sig q → (w : List ℕ) → IsRecord sig t q w → record? sig t q ≡ some w
+record-only sig t q a b w r = go (record? sig t q) (record-fine sig t q a b)
+  where
+    go : (o : Option (List ℕ)) → Record? sig t q o → o ≡ some w
+    go (some v) h = ap some (one-record sig t q v w h r)
+    go none h = absurd (h (record { by = r .by; sub = r .unifier .mgu .sub; same = r .unifier .mgu .unifies }))

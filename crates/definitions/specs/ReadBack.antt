@@ -14,15 +14,15 @@ use lib.Seq.{take-at, drop-at}
 use borrow.Author.Tests.{lt-ltb, le-ltb}
 use Rattle.laws.specs.Choice.{pick}
 use Rattle.theory.specs.Flat.{Item, sy, va, Terms}
-use Rattle.theory.specs.Subst.{vars, In}
+use Rattle.theory.specs.Subst.{vars, In, in?}
 use Rattle.theory.specs.Unify.{Bind, _:=_, Has, Unbound}
 use Rattle.theory.specs.Canon.{Least, Most, mgu-most, most-same}
 use Rattle.theory.specs.Items.{item16, items16, number, number-item, arity, moved-none, codes, length-codes, codes-at, items, shift, Fine}
 use Rattle.theory.specs.Match.{once}
 use Rattle.theory.specs.Solver.{once-cases}
 use Rattle.theory.specs.Matcher.{items?}
-use Rattle.theory.specs.Fresh.{stays, changed-occurs, kept}
-use Rattle.definitions.specs.Records.{Unifier, unless, listedFrom, listed, bytes, fieldBytes, written, recordOf, countOf}
+use Rattle.theory.specs.Fresh.{stays, absent, changed-occurs, kept}
+use Rattle.definitions.specs.Records.{Unifier, unless, listedFrom, listed, bytes, fieldBytes, written, recordOf, countOf, Short}
 
 -- the items of a field: a variable, and its value
 abbrev pub fieldRead : List Item → List Bind → List Bind
@@ -230,3 +230,58 @@ module _ (sig t q : List ℕ) (ft : Fine sig t) (fq : Fine sig q) (θ : ℕ → 
 
   pub read-back : Reads sig t q (readFields (recordOf θ))
   read-back = rw read-record reads
+
+-- every number of a list is a byte
+abbrev pub Octets : List ℕ → Type 0
+Octets [] = Unit {0}
+Octets (b ∷ w) = (b < 256) × Octets w
+
+octets-append : (v w : List ℕ) → Octets v → Octets w → Octets (v ++ w)
+octets-append [] w a b = b
+octets-append (c ∷ v) w a b = (a .0, octets-append v w (a .1) b)
+
+octets-bytes : (l : List Item) → map code l ≡ l → ((x : ℕ) → In x l → x < 64) → Octets (bytes l)
+unfolding bytes
+octets-bytes [] e h = tt
+octets-bytes (va x ∷ l) e h = let b : map code l ≡ l = cc in let c = h x (inl refl) in (omega arith, (omega arith, octets-bytes l b (λ y i. h y (inr i))))
+octets-bytes (sy f ∷ l) e h = let a : code (sy f) ≡ sy f = cc in let b : map code l ≡ l = cc in go (decLe 32768 f) a (octets-bytes l b h)
+  where
+    go : Dec (32768 ≤ f) → code (sy f) ≡ sy f → Octets (bytes l) → (f / 256 < 256) × ((f % 256 < 256) × Octets (bytes l))
+    go (yes v) a o = let c : va (f - 32768) ≡ sy f = rw (le-ltb f 32768 v) at a in let z : _≡_ {A = ℕ} 0 1 = cc in absurd (omega arith)
+    go (no v) a o = (omega arith, (omega arith, o))
+
+length-bytes : (l : List Item) → length (bytes l) ≡ 2 * length l
+unfolding bytes
+length-bytes [] = refl
+length-bytes (i ∷ l) = omega (arith, length-bytes l)
+
+module _ (sig t q : List ℕ) (ft : Fine sig t) (fq : Fine sig q) (θ : ℕ → List Item) (u : Unifier sig (items t) (shift 32 (items q)) θ) where
+  -- the variables of a value are written variables
+  value-below : (x : ℕ) → x < 64 → (z : ℕ) → In z (θ x) → z < 64
+  value-below x b z i = go (ℕ-discrete x z) (in? z (items t)) (in? z (shift 32 (items q)))
+    where
+      go : Dec (x ≡ z) → Dec (In z (items t)) → Dec (In z (shift 32 (items q))) → z < 64
+      go (yes e) d c = omega arith
+      go (no n) (yes j) c = omega (arith, term-below sig t ft z j)
+      go (no n) (no j) (yes k) = omega (arith, shift-below 32 z (items q) (term-below sig q fq) k)
+      go (no n) (no j) (no k) = absurd (absent (arity sig) (items t) (shift 32 (items q)) θ (u .mgu) z j k x n i)
+
+  field-octets : Short θ → (y : ℕ) → y < 64 → Octets (fieldBytes (y := θ y))
+  unfolding fieldBytes bytes
+  field-octets s y b =
+      let n = length-bytes (θ y) in
+      (omega arith, (omega (arith, s y b), (omega arith, (omega arith, (omega arith, octets-bytes (θ y) (coded sig t q ft fq θ u y) (value-below y b))))))
+
+  listed-octets : Short θ → (k y : ℕ) → y + k ≤ 64 → Octets (written (listedFrom θ k y))
+  unfolding listedFrom written
+  listed-octets s zero y b = tt
+  listed-octets s (suc k) y b = go (items? (θ y) (vars y)) (listed-octets s k (y + 1) (omega arith))
+    where
+      go : (d : Dec (θ y ≡ vars y)) → Octets (written (listedFrom θ k (y + 1))) → Octets (written (unless d (y := θ y) (listedFrom θ k (y + 1))))
+      go (yes e) o = o
+      go (no n) o = octets-append (fieldBytes (y := θ y)) (written (listedFrom θ k (y + 1))) (field-octets s y (omega arith)) o
+
+  -- where no value is over 2,048 items, the record is a list of bytes: each length fits into two
+  pub record-octets : Short θ → Octets (recordOf θ)
+  unfolding recordOf
+  record-octets s = listed-octets s 64 0 (omega arith)

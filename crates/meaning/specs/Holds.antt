@@ -10,7 +10,8 @@ use Rattle.layout.specs.Layout.{signatureOf, termOf, isUsed}
 use Rattle.definitions.specs.Trees.{treeOf}
 use Rattle.definitions.specs.Store.{Store, inUse}
 use Rattle.walks.specs.Means.{GoodSt}
-use Rattle.store.specs.Tables.{Tables, ample, indexOf}
+use Rattle.layout.specs.Tables.{Tables, ample}
+use Rattle.store.specs.Tables.{indexOf}
 
 -- the tree of what a slot holds
 abbrev pub treeIn : List ℕ → Option (List ℕ) → Option Tm

@@ -33,7 +33,8 @@ use Rattle.slots.specs.Slots.{has, words8, members, listed}
 use Rattle.slots.proofs.Laws.{getD-words8}
 use Rattle.bank.specs.Bank.{Sets, four, word, mem, met}
 use Rattle.definitions.specs.Store.{Store, inUse, holding, keyed, Answer, refused, opened, slot, slots, found, solved, withKey, fits, answered, written}
-use Rattle.store.specs.Tables.{Tables, ample, endNumber, numberFrom, keyNumber, slotsWith}
+use Rattle.layout.specs.Tables.{Tables}
+use Rattle.store.specs.Tables.{ample, endNumber, numberFrom, keyNumber, slotsWith}
 use Rattle.store.specs.Calls.{Listing, listing, asking}
 use Rattle.meaning.specs.Holds.{treeIn, treesOf, Holds}
 use Rattle.meaning.specs.Lists.{members-slots, listing-listed}

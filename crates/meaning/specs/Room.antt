@@ -28,7 +28,8 @@ use Rattle.paths.specs.Store.{Stored, KeyIn, Fine, fine-back, fine-in, fine-nod
 use Rattle.paths.specs.Count.{Distinct, keys-refused}
 use Rattle.paths.specs.Spelt.{spelt}
 use Rattle.walks.specs.Means.{GoodSt, fill-nums}
-use Rattle.store.specs.Tables.{Tables, indexOf, upsOf, endsOf, noNumbers, located, roomFor}
+use Rattle.layout.specs.Tables.{Tables}
+use Rattle.store.specs.Tables.{indexOf, upsOf, endsOf, noNumbers, located, roomFor}
 use Rattle.meaning.specs.Holds.{treeIn, treesOf, Sound}
 use Rattle.meaning.specs.Counting.{key-count}
 

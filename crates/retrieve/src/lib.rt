@@ -6,9 +6,16 @@ use terms::Refusal;
 use terms::is_term;
 use unify::Recorded;
 ghost use Prim.Native.Nat.{_≤_, _<_};
+ghost use mathlib.Core.Path.{_≡_};
 ghost use lib.ListN.{length};
-ghost use Rattle.terms.specs.Terms.{Signed};
-ghost use Rattle.terms.proofs.Laws.{Good};
+ghost use Rattle.laws.specs.Choice.{pick};
+ghost use Rattle.slots.specs.Slots.{inserted};
+ghost use Rattle.terms.specs.Terms.{Signed, refusal};
+ghost use Rattle.theory.specs.Relations.{Decided};
+ghost use Rattle.layout.specs.Tables.{held};
+ghost use Rattle.retrieve.specs.Stands.{Stands, Answers};
+ghost use Rattle.retrieve.specs.Retrieving.{Retrieving};
+ghost use Rattle.retrieve.specs.Solving.{Solving};
 
 pub enum Retrieved {
     Listed(usize, usize),
@@ -22,7 +29,8 @@ pub enum Solved {
 
 // Does a stored term stand in the relation to the question.
 fn stands(relation: usize, sig: &[u8], t: &[u8], q: &[u8]) -> bool
-    requires { ⌜ Signed (now sig) × Good (now sig) (now q) ⌝ }
+    requires { ⌜ Signed (now sig) × (refusal (now sig) (now q) ≡ 0) ⌝ }
+    ensures { λ r. ⌜ Decided r (Stands relation (now (sig .entry)) (now (t .entry)) (now (q .entry))) ⌝ }
 {
     if relation == 0 {
         return matching::equal(t, q);
@@ -42,16 +50,27 @@ fn stands(relation: usize, sig: &[u8], t: &[u8], q: &[u8]) -> bool
     unify::unifiable(sig, t, q)
 }
 
+// The set with the slot, or as it is.
+fn with_slot(set: SlotSet, slot: usize, put: bool) -> SlotSet
+    requires { ⌜ slot < 512 ⌝ }
+    ensures { λ r. ⌜ r .words ≡ pick put (inserted (set .words) slot) (set .words) ⌝ }
+{
+    if put {
+        return set.insert(slot);
+    }
+    set
+}
+
 // The candidates whose term stands in the relation to the question.
 fn confirmed(bytes: &[u8], relation: usize, sig: &[u8], q: &[u8], candidates: SlotSet) -> SlotSet
-    requires { ⌜ (33538 ≤ length (now bytes)) × Signed (now sig) × Good (now sig) (now q) ⌝ }
+    requires { ⌜ (33538 ≤ length (now bytes)) × Signed (now sig) × (refusal (now sig) (now q) ≡ 0) ⌝ }
+    ensures { λ r. ⌜ Answers (now (bytes .entry)) relation (now (sig .entry)) (now (q .entry)) (candidates .words) (r .words) ⌝ }
 {
     let mut answers = SlotSet::empty();
     let mut slot = candidates.next(0);
     while slot < 512 {
-        if stands(relation, sig, layout::term(bytes, slot), q) {
-            answers = answers.insert(slot);
-        }
+        let yes = stands(relation, sig, layout::term(bytes, slot), q);
+        answers = with_slot(answers, slot, yes);
         slot = candidates.next(slot + 1);
     }
     answers
@@ -70,7 +89,9 @@ pub fn retrieve(
     relation: usize,
     q: &[u8],
     out: &mut [u8],
-) -> Retrieved {
+) -> Retrieved
+    ensures { λ r. ⌜ Retrieving (held (now (bytes .entry)) (now (used .entry)) (now (label .entry)) (now (link .entry)) (now (s0 .entry)) (now (s1 .entry)) (now (s2 .entry)) (now (s3 .entry))) relation (now (q .entry)) (now (out .entry)) (now (out .exit)) r ⌝ }
+{
     if !long_enough(bytes, used, label, link, s0, s1, s2, s3) {
         return Retrieved::Refused(Refusal::Table);
     }
@@ -106,7 +127,9 @@ pub fn solve(
     slot: usize,
     q: &[u8],
     out: &mut [u8],
-) -> Solved {
+) -> Solved
+    ensures { λ r. ⌜ Solving (held (now (bytes .entry)) (now (used .entry)) (now (label .entry)) (now (link .entry)) (now (s0 .entry)) (now (s1 .entry)) (now (s2 .entry)) (now (s3 .entry))) slot (now (q .entry)) (now (out .entry)) (now (out .exit)) r ⌝ }
+{
     if !long_enough(bytes, used, label, link, s0, s1, s2, s3) {
         return Solved::Refused(Refusal::Table);
     }

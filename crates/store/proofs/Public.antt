@@ -1,14 +1,14 @@
 -- The ways out of the calls, over plain contents of the tables.
 use Prim.Native.Nat.{ℕ, zero, suc, _+_, _-_, _*_, _≤_, _<_}
 use mathlib.Core.Path.{_≡_, refl, sym, ap, _∙_}
-use mathlib.Core.List.{List, [], _∷_, _++_}
+use mathlib.Core.List.{List}
 use mathlib.Core.Bool.{Bool, true, false}
 use native.Mathlib.Omega.{arith}
 use native.Mathlib.Decide.{ℕ-discrete, decLt}
-use borrow.Author.Tests.{lt-ltb, le-ltb, ne-eqb, eq-eqb, eqb-true, eqb-false}
+use borrow.Author.Tests.{lt-ltb, le-ltb, ne-eqb, eq-eqb}
 use lib.Dec.{ltb, eqb}
-use lib.ListN.{length, getD, take, drop, replicate, length-append, length-replicate, length-drop, List·getD-append}
-use lib.Seq.{sets, ext-getD, getD-append-add, getD-append-seam, getD-drop}
+use lib.ListN.{length, take}
+use lib.Seq.{sets}
 use Rattle.laws.specs.Choice.{pick}
 use Rattle.slots.specs.Slots.{has, inserted, removed, others, members, listed, Next}
 use Rattle.terms.specs.declared.Refusal.{Refusal}
@@ -17,14 +17,15 @@ use Rattle.terms.specs.declared.Checked.{Checked}
 use Rattle.terms.specs.Refusals.{numberOf, checkedNumber}
 use Rattle.terms.specs.Terms.{sigRefusal, refusal}
 use Rattle.keys.specs.Bytes.{isKey}
-use Rattle.chains.specs.Opening.{Freed}
 use Rattle.bank.specs.Bank.{Sets, four, met}
 use Rattle.paths.specs.Insert.{St}
-use Rattle.layout.specs.Layout.{longEnough, signatureOf, termOf, usedOf, isUsed, blank, signed, withTerm}
+use Rattle.layout.specs.Layout.{longEnough, signatureOf, usedOf, isUsed, blank, signed, withTerm}
 use Rattle.walks.specs.Fill.{tables}
+use Rattle.store.specs.Links.{freed-is}
 use Rattle.store.specs.Opening.{Cleared}
-use Rattle.store.specs.Tables.{Tables, held, indexOf, ample, upsOf, endsOf, Outlined, roomFor, withKeys, withoutTerm, countFrom, freed, openedWith, leastFrom, freeSlot, renewed, insertedAt, deletedAt, keyNumber, slotsWith}
-use Rattle.store.specs.Calls.{Outcome, done, refusedBy, opening, inserting, deleting, Listing, listing, asking}
+use Rattle.layout.specs.Tables.{Tables, held, ample}
+use Rattle.store.specs.Tables.{indexOf, upsOf, endsOf, Outlined, roomFor, withKeys, withoutTerm, openedWith, leastFrom, freeSlot, renewed, insertedAt, deletedAt, keyNumber, slotsWith}
+use Rattle.store.specs.Calls.{done, refusedBy, opening, inserting, deleting, listing, asking}
 
 positive : (w : Refusal) → numberOf w ≡ 0 → ⊥
 positive Table e = omega arith
@@ -43,76 +44,6 @@ positive Nothing e = omega arith
 positive Long e = omega arith
 positive Room e = omega arith
 positive Log e = omega arith
-
--- the table of links of an opening is the one that is defined
-length-count : (k n : ℕ) → length (countFrom k n) ≡ n
-unfolding countFrom
-length-count k zero = refl
-length-count k (suc n) = ap suc (length-count (suc k) n)
-
-getD-count : (k n i : ℕ) → i < n → getD (countFrom k n) i 0 ≡ k + i
-unfolding countFrom
-getD-count k zero i h = absurd (omega arith)
-getD-count k (suc n) zero h = omega arith
-getD-count k (suc n) (suc i) h = let z = getD-count (suc k) n i (omega arith) in omega (arith, z)
-
-abbrev zeros : ℕ → List ℕ
-zeros n = replicate n 0
-
-getD-zeros : (n i : ℕ) → getD (zeros n) i 0 ≡ 0
-getD-zeros zero i = refl
-getD-zeros (suc n) zero = refl
-getD-zeros (suc n) (suc i) = getD-zeros n i
-
-module _ (a b : ℕ) (l : List ℕ) where
-  abbrev rear : List ℕ
-  rear = 1 ∷ drop (a + b + 1) l
-
-  abbrev mid : List ℕ
-  mid = zeros b ++ rear
-
-  abbrev whole : List ℕ
-  whole = countFrom 2 a ++ mid
-
-  length-whole : a + b + 1 ≤ length l → length whole ≡ length l
-  length-whole h =
-      omega (arith, length-append (countFrom 2 a) mid, length-count 2 a, length-append (zeros b) rear, length-replicate {A = ℕ} b 0, length-drop (a + b + 1) l)
-
-  from-mid : (i : ℕ) → a ≤ i → getD whole i 0 ≡ getD mid (i - a) 0
-  from-mid i h =
-      let z : i ≡ length (countFrom 2 a) + (i - a) = omega (arith, length-count 2 a) in
-      ap (λ (j : ℕ). getD whole j 0) z ∙ getD-append-add (countFrom 2 a) mid (i - a) 0
-
-  from-rear : (i : ℕ) → b ≤ i → getD mid i 0 ≡ getD rear (i - b) 0
-  from-rear i h =
-      let z : i ≡ length (zeros b) + (i - b) = omega (arith, length-replicate {A = ℕ} b 0) in
-      ap (λ (j : ℕ). getD mid j 0) z ∙ getD-append-add (zeros b) rear (i - b) 0
-
-  spot : (i v : ℕ) → (i < a → v ≡ 2 + i) → (a ≤ i → i < a + b → v ≡ 0) → (i ≡ a + b → v ≡ 1) → (a + b + 1 ≤ i → v ≡ getD l i 0) → v ≡ getD whole i 0
-  spot i v p q r s = go (decLt i a) (decLt i (a + b)) (ℕ-discrete i (a + b))
-    where
-      low : i < a → getD whole i 0 ≡ 2 + i
-      low h = List·getD-append (countFrom 2 a) mid 0 i (omega (arith, length-count 2 a)) ∙ getD-count 2 a i h
-
-      blanks : a ≤ i → i < a + b → getD whole i 0 ≡ 0
-      blanks h g = from-mid i h ∙ List·getD-append (zeros b) rear 0 (i - a) (omega (arith, length-replicate {A = ℕ} b 0)) ∙ getD-zeros b (i - a)
-
-      rest : a + b ≤ i → getD whole i 0 ≡ getD rear (i - a - b) 0
-      rest h = from-mid i (omega arith) ∙ from-rear (i - a) (omega arith)
-
-      go : Dec (i < a) → Dec (i < a + b) → Dec (i ≡ a + b) → v ≡ getD whole i 0
-      go (yes h) d e = p h ∙ sym (low h)
-      go (no h) (yes g) e = q (omega arith) g ∙ sym (blanks (omega arith) g)
-      go (no h) (no g) (yes e) = let z : i - a - b ≡ 0 = omega arith in r e ∙ sym (rest (omega arith) ∙ ap (λ (j : ℕ). getD rear j 0) z)
-      go (no h) (no g) (no e) =
-          let z : i - a - b ≡ suc (i - (a + b + 1)) = omega arith in
-          let y : a + b + 1 + (i - (a + b + 1)) ≡ i = omega arith in
-          s (omega arith) ∙ sym (rest (omega arith) ∙ ap (λ (j : ℕ). getD rear j 0) z ∙ getD-drop (a + b + 1) l (i - (a + b + 1)) 0 ∙ ap (λ (j : ℕ). getD l j 0) y)
-
-pub freed-is : (l m : List ℕ) → 8190 ≤ length l → Freed l m → m ≡ freed l
-unfolding freed
-freed-is l m h f = ext-getD 0 m (whole 4095 4094 l) (f .same ∙ sym (length-whole 4095 4094 l h))
-    (λ i g. spot 4095 4094 l i (getD m i 0) (λ p. let z = f .next i p in omega (arith, z)) (λ p q. f .none i p q) (λ p. ap (λ (j : ℕ). getD m j 0) p ∙ f .first) (λ p. f .rest i p))
 
 -- the least slot
 least-is : (k : ℕ) (ws : List ℕ) (from r : ℕ) → from + k ≡ 512 → Next ws from r → r ≡ leastFrom ws from k

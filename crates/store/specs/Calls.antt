@@ -2,7 +2,6 @@
 -- Each is an equation of the answer's number and of every byte, so any two permitted answers coincide.
 use Prim.Native.Nat.{ℕ, _*_}
 use mathlib.Core.List.{List}
-use mathlib.Core.Bool.{Bool}
 use lib.Dec.{ltb, eqb}
 use lib.ListN.{length}
 use lib.Seq.{sets}
@@ -17,7 +16,8 @@ use Rattle.store.specs.declared.Opened.the-variants.{Open}
 use Rattle.store.specs.declared.Inserted.{Inserted}
 use Rattle.store.specs.declared.Deleted.{Deleted}
 use Rattle.store.specs.declared.Listed.{Listed}
-use Rattle.store.specs.Tables.{Tables, ample, upsOf, endsOf, roomFor, openedWith, freeSlot, insertedAt, deletedAt, slotsWith}
+use Rattle.layout.specs.Tables.{Tables, ample}
+use Rattle.store.specs.Tables.{upsOf, endsOf, roomFor, openedWith, freeSlot, insertedAt, deletedAt, slotsWith}
 
 -- the number of the refusal, 0 where the call is not refused; the slot or the count that is answered; the tables afterwards
 pub record Outcome : Type 0 where

@@ -1,16 +1,15 @@
 -- Document 01, 'Store': what the lent tables hold, and what each call makes of it, as functions on the tables' contents.
-use Prim.Native.Nat.{ℕ, zero, suc, _+_, _-_, _*_, _≤_, _<_}
+use Prim.Native.Nat.{ℕ, zero, suc, _+_, _-_, _*_, _≤_}
 use mathlib.Core.Path.{_≡_}
 use mathlib.Core.List.{List, [], _∷_, _++_, map}
-use mathlib.Core.Bool.{Bool, true, false}
+use mathlib.Core.Bool.{Bool, false}
 use lib.Dec.{ltb, eqb}
 use lib.ListN.{length, getD, take, drop, replicate}
 use lib.Seq.{sets}
 use Rattle.laws.specs.Choice.{pick}
-use Rattle.slots.specs.Slots.{has, inserted, removed, others, members, listed}
-use Rattle.terms.specs.Terms.{numbers, sigRefusal, refusal}
+use Rattle.slots.specs.Slots.{has, inserted, removed, others}
+use Rattle.terms.specs.Terms.{numbers, refusal}
 use Rattle.keys.specs.Keys.{endOf}
-use Rattle.keys.specs.Bytes.{isKey}
 use Rattle.chains.specs.Chains.{find, longer}
 use Rattle.bank.specs.Bank.{Sets, four, met}
 use Rattle.paths.specs.Rep.{lab}
@@ -18,29 +17,12 @@ use Rattle.paths.specs.Ups.{upsF}
 use Rattle.paths.specs.Insert.{St}
 use Rattle.paths.specs.Locate.{missing}
 use Rattle.walks.specs.Fill.{tables, fill, insFill, delFill}
-use Rattle.layout.specs.Layout.{longEnough, signatureOf, termOf, usedOf, isUsed, blank, signed, withTerm}
-
--- the contents of the eight lent tables (docs/TABLES.md)
-pub record Tables : Type 0 where
-  pub bytes : List ℕ
-  pub used : List ℕ
-  pub label : List ℕ
-  pub link : List ℕ
-  pub s0 : List ℕ
-  pub s1 : List ℕ
-  pub s2 : List ℕ
-  pub s3 : List ℕ
-
-abbrev pub held : List ℕ → List ℕ → List ℕ → List ℕ → List ℕ → List ℕ → List ℕ → List ℕ → Tables
-held b u l k c d e f = record { bytes = b; used = u; label = l; link = k; s0 = c; s1 = d; s2 = e; s3 = f }
+use Rattle.layout.specs.Tables.{Tables, held}
+use Rattle.layout.specs.Layout.{signatureOf, termOf, usedOf, blank, signed, withTerm}
 
 -- the key table and the sets among them
 abbrev pub indexOf : Tables → St Sets
 indexOf T = tables (T .link) (T .label) (T .s0) (T .s1) (T .s2) (T .s3)
-
--- refusal 1 is given exactly where this is false
-unfoldable pub ample : Tables → Bool
-ample T = longEnough (length (T .bytes)) (length (T .used)) (length (T .label)) (length (T .link)) (length (T .s0)) (length (T .s1)) (length (T .s2)) (length (T .s3))
 
 -- OUTLINE: where the items of a term hang, and what stands at the end of their paths
 unfoldable pub upsOf : List ℕ → List ℕ → List ℕ

@@ -17,7 +17,8 @@ ghost use Rattle.terms.specs.Terms.{Signed};
 ghost use Rattle.walks.specs.Fill.{Sized, tables};
 ghost use Rattle.store.specs.Opening.{Cleared};
 ghost use Rattle.store.specs.Calls.{openOutcome, opening, insertOutcome, inserting, deleteOutcome, deleting, keyListing, asking};
-ghost use Rattle.store.specs.Tables.{held, Outlined, roomFor, withKeys, withoutKeys, withoutTerm, endNumber, keyNumber};
+ghost use Rattle.layout.specs.Tables.{held};
+ghost use Rattle.store.specs.Tables.{Outlined, roomFor, withKeys, withoutKeys, withoutTerm, endNumber, keyNumber};
 
 pub enum Opened {
     Open,

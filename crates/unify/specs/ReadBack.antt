@@ -9,7 +9,9 @@ use Rattle.theory.specs.Flat.{Item}
 use Rattle.theory.specs.Items.{items, shift}
 use Rattle.theory.specs.Match.{once}
 use Rattle.theory.specs.Unify.{Has}
-use Rattle.definitions.specs.Records.{recordOf}
+use mathlib.Core.Option.{some}
+use Rattle.definitions.specs.Records.{recordOf, IsRecord}
+use Rattle.definitions.specs.Decisions.{record?, record-only}
 use Rattle.definitions.specs.ReadBack.{readFields, Reads, listed-has, read-record, read-count, read-value, read-back}
 use Rattle.unify.specs.Bytes.{Asked}
 use Rattle.unify.specs.Whole.{Promise}
@@ -19,7 +21,14 @@ module _ (sig t q : List ℕ) (A : Asked sig t q) (out₀ out : List ℕ) (m n :
   first-bytes : take n out ≡ recordOf (p .by)
   first-bytes = ap (take n) (p .written) ∙ take-at (recordOf (p .by)) (drop (length (recordOf (p .by))) out₀) n (sym (p .bytes))
 
-  -- the first n bytes, read as fields, are the unifier
+  -- the first n bytes are the record, and the one that the definitions compute
+  pub answer-record : IsRecord sig t q (take n out)
+  answer-record = record { by = p .by; unifier = p .unifier; is = first-bytes }
+
+  pub answer-computed : record? sig t q ≡ some (take n out)
+  answer-computed = record-only sig t q (A .stored) (A .question) (take n out) answer-record
+
+  -- read as fields, they are the unifier
   pub answer-value : (x : ℕ) → once (readFields (take n out)) x ≡ p .by x
   answer-value x = ap (λ r. once (readFields r) x) first-bytes ∙ read-value sig t q (A .stored) (A .question) (p .by) (p .unifier) x
 

@@ -1,17 +1,13 @@
 use Prim.Native.Nat.{ℕ, _≤_, _-_, _+_, _<_}
 use mathlib.Core.Path.{_≡_, refl, sym, ap, _∙_}
+use mathlib.Core.List.{List}
 use native.Mathlib.Omega.{arith}
-use borrow.Author.Needs.{needs}
-use borrow.Author.Tests.{not-false}
-use Rattle.layout.proofs.Laws.{long, signature-good, in-use-small}
-use Rattle.terms.proofs.Laws.{checked-good}
-use Rattle.theory.specs.Checked.{fine-good}
-use Rattle.unify.specs.Checked.{asked-good}
+use Rattle.retrieve.proofs.Laws.{Confirming, confirming-start, confirming-turn, confirming-end}
 use Rattle.retrieve.proofs.confirmed.Statement.{statement}
 use Rattle.retrieve.proofs.confirmed.Tie as tie
 
 abbrev Inv-loop : tie.InvT-loop
-Inv-loop bytes relation sig q candidates answers₀ slot₀ answers slot = slot ≤ 512
+Inv-loop bytes relation sig q candidates answers₀ slot₀ answers slot = Confirming bytes relation sig q (candidates .words) (answers .words) slot
 
 abbrev μ-loop : tie.MeasureT-loop
 μ-loop bytes relation sig q candidates answers₀ slot₀ answers slot = 512 - slot
@@ -23,7 +19,7 @@ next-requires : tie.Need-next-requires Inv-loop μ-loop
 next-requires c κs = omega arith
 
 loop-holds : tie.Need-loop-holds Inv-loop μ-loop
-loop-holds c = (c .next) .ensures .most
+loop-holds c = let a = (c .before .before .before .before .before) .args in confirming-start (a .bytes .now) (a .relation) (a .sig .now) (a .q .now) (a .candidates .words) _ _ ((c .before .empty) .ensures) ((c .next) .ensures)
 
 term-requires : tie.Need-term-requires Inv-loop μ-loop
 term-requires c κs = ((c .before .before .before .before .before .before .before) .pre .0, (c .loop-test) .taken)
@@ -31,23 +27,26 @@ term-requires c κs = ((c .before .before .before .before .before .before .befor
 stands-requires : tie.Need-stands-requires Inv-loop μ-loop
 stands-requires c κs = ((c .before .before .before .before .before .before .before .before) .pre .1, (c .before .before .before .before .before .before .before .before) .pre .2)
 
-insert-requires : tie.Need-insert-requires Inv-loop μ-loop
-insert-requires c κs = (c .before .before .before .loop-test) .taken
+with-slot-requires : tie.Need-with-slot-requires Inv-loop μ-loop
+with-slot-requires c κs = (c .before .before .loop-test) .taken
 
 add-next : tie.Need-add-next Inv-loop μ-loop
-add-next c = omega arith
+add-next c = omega (arith, (c .before .before .before .loop-test) .taken)
 
 next-requires-2 : tie.Need-next-requires-2 Inv-loop μ-loop
-next-requires-2 c κs = omega arith
+next-requires-2 c κs = omega (arith, (c .before .before .before .loop-test) .taken)
 
 loop-less : tie.Need-loop-less Inv-loop μ-loop
-loop-less c = omega (arith, (c .next2) .ensures .above)
+loop-less c = omega (arith, (c .next2) .ensures .above, (c .before .before .before .before .loop-test) .taken)
 
 loop-again : tie.Need-loop-again Inv-loop μ-loop
-loop-again c = (c .next2) .ensures .most
+loop-again c = let a = (c .before .before .before .before .before .before .before .before .before .before .before) .args in let l = (c .before .before .before .before .before .loop) in
+    let d = (c .before .before .stands) .ensures in
+    confirming-turn (a .bytes .now) (a .relation) (a .sig .now) (a .q .now) (a .candidates .words) (l .answers .words) (l .slot) (l .inv) ((c .before .before .before .before .loop-test) .taken) ((c .before .before .stands) .result) _ _ (rw ((c .before .before .before .term) .ensures .0) at d) ((c .before .with-slot) .ensures) ((c .next2) .ensures)
 
 returns : tie.Need-returns Inv-loop μ-loop
-returns c = tt
+returns c = let a = (c .before .before .before .before .before .before .before) .args in let l = (c .before .loop) in
+    confirming-end (a .bytes .now) (a .relation) (a .sig .now) (a .q .now) (a .candidates .words) (l .answers .words) (l .slot) (l .inv) (omega (arith, (c .loop-test) .left))
 
 pub confirmed-spec : {M : Type 1} → statement M
 confirmed-spec =
@@ -60,7 +59,7 @@ confirmed-spec =
     loop-holds
     term-requires
     stands-requires
-    insert-requires
+    with-slot-requires
     add-next
     next-requires-2
     loop-less

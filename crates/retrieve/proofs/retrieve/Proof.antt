@@ -2,9 +2,11 @@ use Prim.Native.Nat.{ℕ, _≤_, _-_, _+_, _<_}
 use mathlib.Core.Path.{_≡_, refl, sym, ap, _∙_}
 use native.Mathlib.Omega.{arith}
 use borrow.Author.Needs.{needs}
-use borrow.Author.Tests.{not-false}
+use borrow.Author.Tests.{not-false, not-true}
 use Rattle.layout.proofs.Laws.{long, signature-good}
 use Rattle.terms.proofs.Laws.{checked-good}
+use Rattle.layout.specs.Tables.{held}
+use Rattle.retrieve.proofs.Laws.{ample-is, checked-taken, retrieving-table, retrieving-relation, retrieving-question, retrieving-room, retrieving-listed}
 use Rattle.retrieve.proofs.retrieve.Statement.{statement}
 use Rattle.retrieve.proofs.retrieve.Tie as tie
 
@@ -12,10 +14,10 @@ long-enough-requires : tie.Need-long-enough-requires
 long-enough-requires c κs = search needs
 
 returns : tie.Need-returns
-returns c = search needs
+returns c = let a = (c .before .before .before .before .before .before .before .before .before .before .before .before) .args in retrieving-table (held (a .bytes .now) (a .used .now) (a .label .now) (a .link .now) (a .s0 .now) (a .s1 .now) (a .s2 .now) (a .s3 .now)) (a .relation) (a .q .now) (a .out .now) (ample-is (a .bytes .now) (a .used .now) (a .label .now) (a .link .now) (a .s0 .now) (a .s1 .now) (a .s2 .now) (a .s3 .now) ((c .before .long-enough) .result) _ ((c .before .long-enough) .ensures) (not-true ((c .before .long-enough) .result) ((c .if1) .taken)))
 
 returns-2 : tie.Need-returns-2
-returns-2 c = search needs
+returns-2 c = let a = (c .before .before .before .before .before .before .before .before .before .before .before .before .before) .args in retrieving-relation (held (a .bytes .now) (a .used .now) (a .label .now) (a .link .now) (a .s0 .now) (a .s1 .now) (a .s2 .now) (a .s3 .now)) (a .relation) (a .q .now) (a .out .now) (ample-is (a .bytes .now) (a .used .now) (a .label .now) (a .link .now) (a .s0 .now) (a .s1 .now) (a .s2 .now) (a .s3 .now) ((c .before .before .long-enough) .result) _ ((c .before .before .long-enough) .ensures) (not-false ((c .before .before .long-enough) .result) ((c .before .if1) .left))) ((c .if2) .taken)
 
 signature-requires : tie.Need-signature-requires
 signature-requires c κs = let L = long _ _ _ _ _ _ _ _ (sym ((c .before .before .long-enough) .ensures) ∙ not-false ((c .before .before .long-enough) .result) ((c .before .if1) .left)) in
@@ -28,7 +30,7 @@ enum-known-checked : tie.Need-enum-known-checked
 enum-known-checked c = search needs
 
 returns-3 : tie.Need-returns-3
-returns-3 c = search needs
+returns-3 c = let a = (c .before .before .before .before .before .before .before .before .before .before .before .before .before .before .before .before .before .before) .args in retrieving-question (held (a .bytes .now) (a .used .now) (a .label .now) (a .link .now) (a .s0 .now) (a .s1 .now) (a .s2 .now) (a .s3 .now)) (a .relation) (a .q .now) (a .out .now) (ample-is (a .bytes .now) (a .used .now) (a .label .now) (a .link .now) (a .s0 .now) (a .s1 .now) (a .s2 .now) (a .s3 .now) ((c .before .before .before .before .before .before .before .long-enough) .result) _ ((c .before .before .before .before .before .before .before .long-enough) .ensures) (not-false ((c .before .before .before .before .before .before .before .long-enough) .result) ((c .before .before .before .before .before .before .if1) .left))) (omega (arith, (c .before .before .before .before .before .if2) .left)) ((c .before .before .before .before .signature) .result .now) ((c .before .before .before .before .signature) .ensures) ((c .before .before .before .check) .result) _ ((c .before .before .before .check) .ensures) ((c .before .checked) .given .1)
 
 enum-told : tie.Need-enum-told
 enum-told c = search needs
@@ -44,7 +46,7 @@ candidates-requires c κs = let L = long _ _ _ _ _ _ _ _ (sym ((c .before .befor
 
 confirmed-requires : tie.Need-confirmed-requires
 confirmed-requires c κs = let L = long _ _ _ _ _ _ _ _ (sym ((c .before .before .before .before .before .before .before .before .long-enough) .ensures) ∙ not-false ((c .before .before .before .before .before .before .before .before .long-enough) .result) ((c .before .before .before .before .before .before .before .if1) .left)) in
-    (L .bytes, rw ((c .before .before .before .before .before .signature) .ensures) (signature-good _), checked-good _ _ _ ((c .before .before .before .before .check) .ensures) ((c .before .before .enum-told) .given .1))
+    (L .bytes, rw ((c .before .before .before .before .before .signature) .ensures) (signature-good _), checked-taken _ _ _ ((c .before .before .before .before .check) .ensures) ((c .before .before .enum-told) .given .1))
 
 size-requires : tie.Need-size-requires
 size-requires c κs = search needs
@@ -53,7 +55,7 @@ mul-if3 : tie.Need-mul-if3
 mul-if3 c = omega (arith, (c .size) .ensures .1)
 
 returns-4 : tie.Need-returns-4
-returns-4 c = search needs
+returns-4 c = let a = (c .before .before .before .before .before .before .before .before .before .before .before .before .before .before .before .before .before .before .before .before .before .before) .args in retrieving-room (held (a .bytes .now) (a .used .now) (a .label .now) (a .link .now) (a .s0 .now) (a .s1 .now) (a .s2 .now) (a .s3 .now)) (a .relation) (a .q .now) (a .out .now) (ample-is (a .bytes .now) (a .used .now) (a .label .now) (a .link .now) (a .s0 .now) (a .s1 .now) (a .s2 .now) (a .s3 .now) ((c .before .before .before .before .before .before .before .before .before .before .before .long-enough) .result) _ ((c .before .before .before .before .before .before .before .before .before .before .before .long-enough) .ensures) (not-false ((c .before .before .before .before .before .before .before .before .before .before .before .long-enough) .result) ((c .before .before .before .before .before .before .before .before .before .before .if1) .left))) (omega (arith, (c .before .before .before .before .before .before .before .before .before .if2) .left)) ((c .before .before .before .before .before .before .before .before .signature) .result .now) ((c .before .before .before .before .before .before .before .before .signature) .ensures) (checked-taken ((c .before .before .before .before .before .before .before .before .signature) .result .now) (a .q .now) ((c .before .before .before .before .before .before .before .check) .result) ((c .before .before .before .before .before .before .before .check) .ensures) ((c .before .before .before .before .before .enum-told) .given .1)) ((c .before .before .before .candidates) .result .words) ((c .before .before .before .before .slots-used) .result .words) ((c .before .before .confirmed) .result .words) ((c .before .before .before .before .slots-used) .ensures) ((c .before .before .before .candidates) .ensures) ((c .before .before .confirmed) .ensures) ((c .before .size) .result) ((c .before .size) .ensures .0) ((c .if3) .taken)
 
 list-requires : tie.Need-list-requires
 list-requires c κs = omega (arith, (c .before .before .size) .ensures .0, (c .before .if3) .left)
@@ -65,7 +67,7 @@ same-length : tie.Need-same-length
 same-length c = search needs
 
 returns-5 : tie.Need-returns-5
-returns-5 c = search needs
+returns-5 c = let a = (c .before .before .before .before .before .before .before .before .before .before .before .before .before .before .before .before .before .before .before .before .before .before .before .before .before .before .before) .args in retrieving-listed (held (a .bytes .now) (a .used .now) (a .label .now) (a .link .now) (a .s0 .now) (a .s1 .now) (a .s2 .now) (a .s3 .now)) (a .relation) (a .q .now) (a .out .now) (ample-is (a .bytes .now) (a .used .now) (a .label .now) (a .link .now) (a .s0 .now) (a .s1 .now) (a .s2 .now) (a .s3 .now) ((c .before .before .before .before .before .before .before .before .before .before .before .before .before .before .before .before .long-enough) .result) _ ((c .before .before .before .before .before .before .before .before .before .before .before .before .before .before .before .before .long-enough) .ensures) (not-false ((c .before .before .before .before .before .before .before .before .before .before .before .before .before .before .before .before .long-enough) .result) ((c .before .before .before .before .before .before .before .before .before .before .before .before .before .before .before .if1) .left))) (omega (arith, (c .before .before .before .before .before .before .before .before .before .before .before .before .before .before .if2) .left)) ((c .before .before .before .before .before .before .before .before .before .before .before .before .before .signature) .result .now) ((c .before .before .before .before .before .before .before .before .before .before .before .before .before .signature) .ensures) (checked-taken ((c .before .before .before .before .before .before .before .before .before .before .before .before .before .signature) .result .now) (a .q .now) ((c .before .before .before .before .before .before .before .before .before .before .before .before .check) .result) ((c .before .before .before .before .before .before .before .before .before .before .before .before .check) .ensures) ((c .before .before .before .before .before .before .before .before .before .before .enum-told) .given .1)) ((c .before .before .before .before .before .before .before .before .candidates) .result .words) ((c .before .before .before .before .before .before .before .before .before .slots-used) .result .words) ((c .before .before .before .before .before .before .before .confirmed) .result .words) ((c .before .before .before .before .before .before .before .before .before .slots-used) .ensures) ((c .before .before .before .before .before .before .before .before .candidates) .ensures) ((c .before .before .before .before .before .before .before .confirmed) .ensures) ((c .size2) .result) ((c .before .before .before .before .before .before .size) .result) _ ((c .size2) .ensures .0) ((c .before .before .before .before .before .before .size) .ensures .0) (omega (arith, (c .before .before .before .before .before .if3) .left)) ((c .before .before .before .list) .ensures)
 
 pub retrieve-spec : {M : Type 1} → statement M
 retrieve-spec =

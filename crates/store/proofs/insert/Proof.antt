@@ -155,7 +155,7 @@ returns-4 c = insert-crowded _ _ _ _ _ _ _ _ _ (fair _ ((c .before .before .befo
 
 add-keys-requires : tie.Need-add-keys-requires
 add-keys-requires c κs = let L = long _ _ _ _ _ _ _ _ (sym ((c .before .before .before .before .before .before .before .before .before .before .before .before .before .before .before .before .before .before .before .before .before .before .long-enough) .ensures) ∙ not-false ((c .before .before .before .before .before .before .before .before .before .before .before .before .before .before .before .before .before .before .before .before .before .before .long-enough) .result) ((c .before .before .before .before .before .before .before .before .before .before .before .before .before .before .before .before .before .before .before .before .before .if1) .left)) in
-    (sized _ _ _ _ _ _ _ _ L, (c .before .before .before .before .before .before .before .before .before .before .outline-of) .ensures .few, search needs, search needs, (c .before .before .before .before .before .before .before .before .before .before .before .if2) .left)
+    (sized _ _ _ _ _ _ _ _ L, (c .before .before .before .before .before .before .before .before .before .before .outline-of) .ensures .few, search needs, search needs, omega (arith, (c .before .before .before .before .before .before .before .before .before .before .before .if2) .left))
 
 put-term-requires : tie.Need-put-term-requires
 put-term-requires c κs = let L = long _ _ _ _ _ _ _ _ (sym ((c .before .before .before .before .before .before .before .before .before .before .before .before .before .before .before .before .before .before .before .before .before .before .before .before .before .before .before .before .before .before .before .before .before .before .before .before .long-enough) .ensures) ∙ not-false ((c .before .before .before .before .before .before .before .before .before .before .before .before .before .before .before .before .before .before .before .before .before .before .before .before .before .before .before .before .before .before .before .before .before .before .before .before .long-enough) .result) ((c .before .before .before .before .before .before .before .before .before .before .before .before .before .before .before .before .before .before .before .before .before .before .before .before .before .before .before .before .before .before .before .before .before .before .before .if1) .left)) in

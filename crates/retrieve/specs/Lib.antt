@@ -1,0 +1,6 @@
+pub mod Means
+pub mod Numbers
+pub mod One
+pub mod Retrieving
+pub mod Solving
+pub mod Stands
