@@ -3,3 +3,4 @@ pub mod Lists
 pub mod Counting
 pub mod Room
 pub mod Keyed
+pub mod Solved
