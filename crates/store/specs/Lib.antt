@@ -5,4 +5,5 @@ pub mod Kept
 pub mod Links
 pub mod Means
 pub mod Opening
+pub mod Question
 pub mod Tables
