@@ -1,11 +1,11 @@
 -- The ways out of the calls, over plain contents of the tables.
 use Prim.Native.Nat.{ℕ, zero, suc, _+_, _-_, _*_, _≤_, _<_}
 use mathlib.Core.Path.{_≡_, refl, sym, ap, _∙_}
-use mathlib.Core.List.{List, [], _∷_, _++_}
+use mathlib.Core.List.{List}
 use mathlib.Core.Bool.{Bool, true, false}
 use native.Mathlib.Omega.{arith}
 use native.Mathlib.Decide.{ℕ-discrete, decLt}
-use borrow.Author.Tests.{lt-ltb, le-ltb, ne-eqb, eq-eqb, eqb-true, eqb-false}
+use borrow.Author.Tests.{lt-ltb, le-ltb, ne-eqb, eq-eqb}
 use lib.Dec.{ltb, eqb}
 use lib.ListN.{length, take}
 use lib.Seq.{sets}
@@ -19,12 +19,12 @@ use Rattle.terms.specs.Terms.{sigRefusal, refusal}
 use Rattle.keys.specs.Bytes.{isKey}
 use Rattle.bank.specs.Bank.{Sets, four, met}
 use Rattle.paths.specs.Insert.{St}
-use Rattle.layout.specs.Layout.{longEnough, signatureOf, termOf, usedOf, isUsed, blank, signed, withTerm}
+use Rattle.layout.specs.Layout.{longEnough, signatureOf, usedOf, isUsed, blank, signed, withTerm}
 use Rattle.walks.specs.Fill.{tables}
 use Rattle.store.specs.Links.{freed-is}
 use Rattle.store.specs.Opening.{Cleared}
 use Rattle.store.specs.Tables.{Tables, held, indexOf, ample, upsOf, endsOf, Outlined, roomFor, withKeys, withoutTerm, openedWith, leastFrom, freeSlot, renewed, insertedAt, deletedAt, keyNumber, slotsWith}
-use Rattle.store.specs.Calls.{Outcome, done, refusedBy, opening, inserting, deleting, Listing, listing, asking}
+use Rattle.store.specs.Calls.{done, refusedBy, opening, inserting, deleting, listing, asking}
 
 positive : (w : Refusal) → numberOf w ≡ 0 → ⊥
 positive Table e = omega arith

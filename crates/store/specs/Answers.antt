@@ -1,6 +1,6 @@
 -- Document 01, 'Store': what each call answers and leaves, said of the store that the tables stand for.
-use Prim.Native.Nat.{ℕ, _≤_, _<_}
-use mathlib.Core.Path.{_≡_, refl, sym, ap, _∙_, subst}
+use Prim.Native.Nat.{ℕ, _-_, _*_, _≤_, _<_}
+use mathlib.Core.Path.{_≡_, refl, sym, _∙_, subst}
 use mathlib.Core.Logic.{_↔_}
 use mathlib.Core.List.{List}
 use mathlib.Core.Bool.{Bool, true, false}
@@ -10,15 +10,23 @@ use native.Mathlib.Decide.{decLt, ℕ-discrete}
 use borrow.Author.Tests.{eq-eqb, ne-eqb, lt-ltb, le-ltb}
 use lib.Dec.{ltb, eqb}
 use lib.ListN.{length}
+use lib.Seq.{sets}
 use Rattle.laws.specs.Choice.{pick}
+use Rattle.slots.specs.Slots.{has, members, listed}
 use Rattle.terms.specs.Terms.{sigRefusal, refusal}
-use Rattle.layout.specs.Layout.{Long, signatureOf, isUsed}
+use Rattle.keys.specs.Bytes.{isKey}
+use Rattle.definitions.specs.KeyBytes.{keyOf}
+use Rattle.bank.specs.Bank.{mem}
+use Rattle.paths.specs.Free.{frees}
+use Rattle.paths.specs.Insert.{RK}
+use Rattle.layout.specs.Layout.{Long}
 use Rattle.layout.proofs.Laws.{long}
-use Rattle.paths.specs.Count.{Distinct}
-use Rattle.store.specs.Tables.{Tables, ample, upsOf, endsOf, roomFor, openedWith, freeSlot, insertedAt, deletedAt}
-use Rattle.store.specs.Calls.{Outcome, done, refusedBy, opening, inserting, deleting}
+use Rattle.paths.specs.Count.{Distinct, keys-now}
+use Rattle.store.specs.Tables.{Tables, indexOf, ample, upsOf, endsOf, roomFor, openedWith, freeSlot, insertedAt, deletedAt, slotsWith}
+use Rattle.store.specs.Calls.{Outcome, done, refusedBy, opening, inserting, deleting, Listing, listing, asking}
 use Rattle.store.specs.Means.{Slots, changed, filled, Holds, holds-ample, open-holds}
 use Rattle.store.specs.Changes.{Smallest, smallest, insert-holds, delete-holds, use-means, KeysOf, room-means, keys-after}
+use Rattle.store.specs.Question.{key-means}
 
 -- OPEN, on all memory: 1 where a table is short, else 2 where the signature is refused, else the empty store
 pub data Opens (T : Tables) (sig : List ℕ) : Outcome → Type 0 where
@@ -96,3 +104,29 @@ delete-answers T sig st s h = rw (holds-ample T sig st h, use-means T sig st s h
     go : (o : Option (List ℕ)) → st s ≡ o → Deletes T sig st s (pick (eqb (filled o) 1) (done s (deletedAt T s)) (refusedBy 4 T))
     go none e = empty e
     go (some t) e = deleted t (deletedAt T s) e (delete-holds T sig st t s h (low t e (decLt s 512)) e)
+
+-- THE KEY QUESTION: 9 where the bytes are no key, 15 where the slots do not fit, else the slots whose term has the key, ascending
+abbrev pub WithKey : List ℕ → Slots → List ℕ → List ℕ → Type 0
+WithKey sig st k ws = (s : ℕ) → s < 512 → (has ws s ≡ 1) ↔ RK (KeysOf sig st) s (keyOf k)
+
+pub data Asks (sig : List ℕ) (st : Slots) (k out : List ℕ) : Listing → Type 0 where
+  wrong : isKey sig k ≡ false → Asks sig st k out (listing 9 0 out)
+  small : (ws : List ℕ) → isKey sig k ≡ true → WithKey sig st k ws → length out < 2 * length (members ws) → Asks sig st k out (listing 15 0 out)
+  given : (ws : List ℕ) → isKey sig k ≡ true → WithKey sig st k ws → 2 * length (members ws) ≤ length out → Asks sig st k out (listing 0 (length (members ws)) (sets out 0 (listed (members ws))))
+
+pub ask-answers : (T : Tables) (sig : List ℕ) (st : Slots) (k out : List ℕ) → Holds T sig st → Asks sig st k out (asking T k out)
+unfolding asking
+ask-answers T sig st k out h = rw (holds-ample T sig st h, h .signature) (go (isKey sig k) refl (decLt (length out) (2 * length (members ws))))
+  where
+    ws : List ℕ
+    ws = slotsWith T k
+
+    go : (b : Bool) → isKey sig k ≡ b → Dec (length out < 2 * length (members ws))
+        → Asks sig st k out (pick b (pick (ltb (length out) (2 * length (members ws))) (listing 15 0 out) (listing 0 (length (members ws)) (sets out 0 (listed (members ws))))) (listing 9 0 out))
+    go false e d = wrong e
+    go true e (yes l) = rw (lt-ltb (length out) (2 * length (members ws)) l) (small ws e (λ s g. key-means T sig st k s h e g) l)
+    go true e (no l) = rw (le-ltb (length out) (2 * length (members ws)) (omega arith)) (given ws e (λ s g. key-means T sig st k s h e g) (omega arith))
+
+-- the keys in use are exactly the distinct keys of the stored terms
+pub keys-in-use : (T : Tables) (sig : List ℕ) (st : Slots) → Holds T sig st → Distinct (KeysOf sig st) (4096 - frees (T .label))
+keys-in-use T sig st h = keys-now (T .link) (T .label) (mem (indexOf T .sets)) (KeysOf sig st) (h .index .rep) (h .index .full)

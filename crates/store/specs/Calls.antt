@@ -2,7 +2,6 @@
 -- Each is an equation of the answer's number and of every byte, so any two permitted answers coincide.
 use Prim.Native.Nat.{ℕ, _*_}
 use mathlib.Core.List.{List}
-use mathlib.Core.Bool.{Bool}
 use lib.Dec.{ltb, eqb}
 use lib.ListN.{length}
 use lib.Seq.{sets}

@@ -1,36 +1,33 @@
 -- Document 01, 'Store': insert and delete of the tables are insert and delete of the store, in the smallest free slot; refusal 12.
 use Prim.Native.Nat.{ℕ, zero, suc, _+_, _-_, _*_, _≤_, _<_}
 use mathlib.Core.Path.{_≡_, refl, sym, ap, _∙_, subst}
-use mathlib.Core.Logic.{_⊎_, inl, inr, _↔_}
-use mathlib.Core.List.{List, [], _∷_, _++_, map}
-use mathlib.Core.Bool.{Bool, true, false}
+use mathlib.Core.Logic.{inl, inr, _↔_}
+use mathlib.Core.List.{List, [], map}
+use mathlib.Core.Bool.{true, false}
 use mathlib.Core.Option.{Option, some, none}
 use native.Mathlib.Omega.{arith}
 use native.Mathlib.Decide.{ℕ-discrete, decLt}
 use borrow.Author.Tests.{eq-eqb, ne-eqb, lt-ltb, le-ltb}
 use lib.Dec.{ltb, eqb}
-use lib.ListN.{length, getD, take, length-append, length-map}
+use lib.ListN.{length, take, length-append, length-map}
 use lib.Seq.{sets, length-sets, take-all}
 use Rattle.laws.specs.Choice.{pick}
-use Rattle.laws.specs.Members.{In}
 use Rattle.slots.specs.Slots.{has, inserted, removed, others, Next}
 use Rattle.terms.specs.Terms.{numbers, Signed, refusal}
 use Rattle.terms.proofs.Laws.{good}
 use Rattle.keys.specs.Keys.{Tm, Args, node, nil, cons, Place, Key, key, endOf, size, sizes}
 use Rattle.definitions.specs.Trees.{itemsT, treeOf}
 use Rattle.definitions.specs.Spelt.{size-items}
-use Rattle.chains.specs.Chains.{longer}
-use Rattle.bank.specs.Bank.{Sets, mem}
+use Rattle.bank.specs.Bank.{mem}
 use Rattle.paths.specs.Free.{frees, room}
 use Rattle.paths.specs.Walk.{upsT, upsA, endsT, keyList}
-use Rattle.paths.specs.Insert.{St, RK, With}
+use Rattle.paths.specs.Insert.{RK, With}
 use Rattle.paths.specs.Locate.{numList, missing, located as locatedKeys, lack-of}
 use Rattle.paths.specs.Store.{Stored, KeyIn, put, Fine, fine-back, fine-nodup, fine-in}
-use Rattle.paths.specs.Spelt.{Spelt, spelt}
+use Rattle.paths.specs.Spelt.{spelt}
 use Rattle.paths.specs.Count.{Distinct, keys-then, keys-refused}
-use Rattle.walks.specs.Fill.{fill, insFill, delFill}
 use Rattle.walks.specs.Means.{GoodSt, insert-means, delete-means, fill-nums}
-use Rattle.layout.specs.Layout.{signatureOf, termOf, usedOf, isUsed, withTerm}
+use Rattle.layout.specs.Layout.{termOf, usedOf, isUsed, withTerm}
 use Rattle.layout.proofs.Laws.{signature-good, length-with-term}
 use Rattle.store.specs.Tables.{Tables, indexOf, upsOf, endsOf, noNumbers, located, roomFor, withKeys, withoutKeys, withoutTerm, leastFrom, freeSlot, insertedAt, deletedAt}
 use Rattle.store.specs.Kept.{with-signature, with-term-same, with-term-other, insert-same, insert-other, insert-words, remove-same, remove-other, remove-words, has-others}

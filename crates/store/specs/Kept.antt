@@ -1,23 +1,22 @@
 -- What the writes of the store leave of the signature, the terms and the slots in use.
-use Prim.Native.Nat.{ℕ, zero, suc, _+_, _-_, _*_, _/_, _%_, _^_, _≤_, _<_, min, max}
-use mathlib.Core.Path.{_≡_, refl, sym, ap, _∙_}
-use mathlib.Core.List.{List, [], _∷_, _++_}
+use Prim.Native.Nat.{ℕ, zero, suc, _+_, _-_, _*_, _/_, _%_, _^_, _≤_, _<_, min}
+use mathlib.Core.Path.{_≡_, refl, sym, _∙_}
+use mathlib.Core.List.{List, [], _∷_}
 use mathlib.Core.Bool.{Bool, true, false}
 use native.Mathlib.Omega.{arith}
 use native.Mathlib.Decide.{ℕ-discrete, decLt}
 use native.Mathlib.Nat.{mod-eq-of-lt}
-use borrow.Author.Tests.{lt-ltb, le-ltb, le-leb, ltb-false}
-use lib.Dec.{ltb, leb, eqb}
+use borrow.Author.Tests.{le-ltb, le-leb, ltb-false}
+use lib.Dec.{ltb}
 use lib.Bits.{bitAnd, bitOr, bitXor, differ, or-lt, xor-lt, and-lt}
-use lib.ListN.{length, getD, set, take, drop, replicate, length-take, length-drop, length-set, length-append, length-replicate, List·getD-append}
+use lib.ListN.{length, getD, set, take, drop, replicate, length-take, length-drop, length-set, length-replicate, List·getD-append}
 use lib.Pow.{pow-lt}
 use lib.Seq.{sets, length-sets, ext-getD, getD-take, getD-drop, getD-set-same, getD-set-other}
-use Rattle.laws.specs.Choice.{pick}
 use Rattle.laws.specs.Digits.{bit, bit-and, bit-xor, bit-pow-same, bit-pow-other}
 use Rattle.slots.specs.Slots.{has, inserted, removed, words8, others}
 use Rattle.slots.proofs.Laws.{getD-words8, has-insert-same, has-insert-other, bit-not}
 use Rattle.terms.specs.Terms.{Signed}
-use Rattle.layout.specs.Layout.{setsLong, longEnough, largestOf, arities, signatureOf, termOf, usedOf, blank, signed, withTerm}
+use Rattle.layout.specs.Layout.{setsLong, longEnough, largestOf, signatureOf, termOf, usedOf, blank, signed, withTerm}
 use Rattle.layout.proofs.Laws.{length-blank}
 
 -- one element after elements were written

@@ -1,41 +1,30 @@
 -- Document 01, 'Store': the store that the tables stand for, and that opening, insert and delete of the tables are those of the store.
-use Prim.Native.Nat.{ℕ, zero, suc, _+_, _-_, _*_, _/_, _%_, _^_, _≤_, _<_, max}
-use mathlib.Core.Path.{_≡_, refl, sym, ap, _∙_, subst}
-use mathlib.Core.Logic.{_↔_}
-use mathlib.Core.List.{List, [], _∷_, map}
+use Prim.Native.Nat.{ℕ, zero, suc, _+_, _-_, _*_, _/_, _%_, _≤_, _<_}
+use mathlib.Core.Path.{_≡_, refl, sym, _∙_, subst}
+use mathlib.Core.List.{List}
 use mathlib.Core.Bool.{Bool, true, false}
 use mathlib.Core.Option.{Option, some, none}
 use native.Mathlib.Omega.{arith}
-use native.Mathlib.Decide.{ℕ-discrete, decLt}
-use borrow.Author.Tests.{eq-eqb, ne-eqb, eqb-true, eqb-false, lt-ltb, le-ltb}
-use lib.Dec.{ltb, eqb}
-use lib.ListN.{length, getD, take, replicate, length-map, length-replicate}
-use lib.Seq.{sets, length-sets, take-all}
+use borrow.Author.Tests.{eq-eqb, ne-eqb}
+use lib.Dec.{eqb}
+use lib.ListN.{length, getD}
 use Rattle.laws.specs.Choice.{pick}
 use Rattle.laws.specs.Digits.{bit, bit-suc, bit-zero}
-use Rattle.slots.specs.Slots.{has, others}
-use Rattle.terms.specs.Terms.{numbers, Signed, sigRefusal, refusal}
-use Rattle.terms.proofs.Laws.{Good, good, signed}
-use Rattle.keys.specs.Keys.{Tm, Place, endOf}
+use Rattle.slots.specs.Slots.{has}
+use Rattle.terms.specs.Terms.{sigRefusal, refusal}
+use Rattle.terms.proofs.Laws.{signed}
+use Rattle.keys.specs.Keys.{Tm}
 use Rattle.definitions.specs.Trees.{treeOf}
-use Rattle.chains.specs.Chains.{longer}
 use Rattle.bank.specs.Bank.{Sets, four, tab, word, Ok, mem, mark}
-use Rattle.paths.specs.Free.{frees, room}
-use Rattle.paths.specs.Walk.{upsT, endsT, keyList}
-use Rattle.paths.specs.Ups.{upsF}
-use Rattle.paths.specs.Insert.{St, Good as GoodIndex, With, rep-iff}
-use Rattle.paths.specs.Locate.{numList, missing, located as locatedKeys, lack-of}
-use Rattle.paths.specs.Store.{Stored, KeyIn, put, Fine, fine-back, fine-nodup}
-use Rattle.paths.specs.Spelt.{Spelt, spelt}
+use Rattle.paths.specs.Insert.{St, rep-iff}
+use Rattle.paths.specs.Store.{Stored, KeyIn, put}
 use Rattle.paths.specs.Open.{Fresh, open-good}
-use Rattle.paths.specs.Count.{Distinct, keys-refused}
-use Rattle.walks.specs.Fill.{fill, insFill, delFill}
-use Rattle.walks.specs.Means.{GoodSt, insert-means, delete-means, fill-nums}
-use Rattle.layout.specs.Layout.{Long, signatureOf, termOf, usedOf, isUsed, blank}
-use Rattle.layout.proofs.Laws.{signature-good, length-blank, length-signed, length-with-term}
-use Rattle.store.specs.Tables.{Tables, held, indexOf, ample, upsOf, endsOf, noNumbers, located, roomFor, withKeys, withoutKeys, withoutTerm, freed, openedWith, leastFrom, freeSlot, insertedAt, deletedAt}
+use Rattle.walks.specs.Means.{GoodSt}
+use Rattle.layout.specs.Layout.{Long, signatureOf, termOf, usedOf, blank}
+use Rattle.layout.proofs.Laws.{length-blank, length-signed}
+use Rattle.store.specs.Tables.{Tables, indexOf, ample, freed, openedWith}
 use Rattle.store.specs.Links.{freed-length, freed-next, freed-none, freed-first}
-use Rattle.store.specs.Kept.{Words, signed-signature, with-signature, with-term-same, with-term-other, insert-same, insert-other, insert-words, remove-same, remove-other, remove-words, has-used, has-others, blank-low, long-is}
+use Rattle.store.specs.Kept.{Words, signed-signature, has-used, blank-low, long-is}
 
 -- a store: what each slot holds, as bytes
 abbrev pub Slots : Type 0

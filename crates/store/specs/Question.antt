@@ -1,34 +1,35 @@
 -- Document 01, 'Paths and keys': the set found for the bytes of a key is exactly the slots in use whose term has that key.
 use Prim.Native.Nat.{ℕ, zero, suc, _+_, _-_, _*_, _/_, _%_, _≤_, _<_, min}
-use mathlib.Core.Path.{_≡_, refl, sym, ap, _∙_, subst}
+use mathlib.Core.Path.{_≡_, refl, sym, _∙_, subst}
 use mathlib.Core.Logic.{_↔_}
 use mathlib.Core.List.{List, [], _∷_}
 use mathlib.Core.Bool.{Bool, true, false}
 use mathlib.Core.Option.{Option, some, none}
 use native.Mathlib.Omega.{arith}
-use native.Mathlib.Decide.{decLt, ℕ-discrete}
-use borrow.Author.Tests.{ltb-true, ltb-false, leb-true, eqb-true, eqb-false, eq-eqb, ne-eqb, lt-ltb, le-ltb}
+use native.Mathlib.Decide.{decLt}
+use borrow.Author.Tests.{ltb-true, leb-true, eqb-true, eqb-false, eq-eqb, ne-eqb, lt-ltb, le-ltb}
 use lib.Dec.{ltb, leb, eqb}
 use lib.Bits.{bitAnd}
 use lib.ListN.{length, getD, replicate}
 use Rattle.laws.specs.Choice.{pick}
 use Rattle.laws.specs.Digits.{bit, bit-and}
-use Rattle.slots.specs.Slots.{has, words8}
+use Rattle.slots.specs.Slots.{has}
 use Rattle.slots.proofs.Laws.{getD-words8}
 use Rattle.terms.specs.Terms.{Signed}
-use Rattle.keys.specs.Keys.{Tm, Place, root, step, Key, key}
+use Rattle.keys.specs.Keys.{Place, root, step, Key, key}
 use Rattle.keys.specs.Bytes.{stepGood, endGood, stepsGood, isKey}
 use Rattle.definitions.specs.Spelt.{taken}
 use Rattle.definitions.specs.KeyBytes.{keyAfter, keyOf}
 use Rattle.chains.specs.Chains.{find, find-sound}
 use Rattle.bank.specs.Bank.{Sets, four, word, mem, met}
-use Rattle.paths.specs.Rep.{lab, lab-inj, At, top, kid, Den, Rep, find-den, find-none}
+use Rattle.paths.specs.Rep.{lab, lab-inj, At, top, kid, Rep, find-den, find-none}
 use Rattle.paths.specs.Insert.{DenK, RK}
 use Rattle.paths.specs.Locate.{find-le}
-use Rattle.layout.specs.Layout.{signatureOf, usedOf}
+use Rattle.paths.specs.Store.{KeyIn}
+use Rattle.layout.specs.Layout.{usedOf}
 use Rattle.layout.proofs.Laws.{signature-good}
-use Rattle.store.specs.Tables.{Tables, indexOf, endNumber, numberFrom, keyNumber, slotsWith}
-use Rattle.store.specs.Means.{Slots, filled, treeIn, trees, Holds, zero-digit}
+use Rattle.store.specs.Tables.{Tables, endNumber, numberFrom, keyNumber, slotsWith}
+use Rattle.store.specs.Means.{Slots, filled, treeIn, Holds, zero-digit}
 use Rattle.store.specs.Changes.{KeysOf}
 
 -- the number that is found is the key's, if some key in use is that key
@@ -166,14 +167,16 @@ key-means T sig st k s h e l = go (keyAfter root k) n (decLt m 4096)
     in-slot : (P : Place) (x : ℕ) → KeysOf sig st s P x → has (usedOf (T .used)) s ≡ 1
     in-slot P x q = h .slots s l ∙ some-there (st s) q
       where
-        some-there : (o : Option (List ℕ)) → Rattle.paths.specs.Store.KeyIn (treeIn sig o) P x → filled o ≡ 1
+        some-there : (o : Option (List ℕ)) → KeyIn (treeIn sig o) P x → filled o ≡ 1
         some-there none q = absurd q
         some-there (some t) q = refl
 
     go : (K : Key) → Named (T .label) m K → Dec (m < 4096) → (has (met S m (usedOf (T .used))) s ≡ 1) ↔ RK (KeysOf sig st) s K
-    go (key P x) d (yes q) =
-        ((λ z. let y = met-has S m (usedOf (T .used)) s q l in h .index .rep .into m s P x (d .found q) (q, l, omega (arith, z, y))),
-        (λ z. let y = met-has S m (usedOf (T .used)) s q l in let w = h .index .rep .from m s P x (d .found q) z in let v = in-slot P x z in let b = w .2 in omega (arith, y, v, b)))
-    go (key P x) d (no q) =
-        ((λ z. absurd (let y = met-none S m (usedOf (T .used)) s (omega arith) in omega (arith, y, z))),
-        (λ z. absurd (let w = h .index .rep .there s P x z in d .lost (omega arith) (w .0) (w .1))))
+    go (key P x) d (yes q) = (
+      (λ z. let y = met-has S m (usedOf (T .used)) s q l in h .index .rep .into m s P x (d .found q) (q, l, omega (arith, z, y))),
+      (λ z. let y = met-has S m (usedOf (T .used)) s q l in let w = h .index .rep .from m s P x (d .found q) z in let v = in-slot P x z in let b = w .2 in omega (arith, y, v, b)),
+    )
+    go (key P x) d (no q) = (
+      (λ z. absurd (let y = met-none S m (usedOf (T .used)) s (omega arith) in omega (arith, y, z))),
+      (λ z. absurd (let w = h .index .rep .there s P x z in d .lost (omega arith) (w .0) (w .1))),
+    )

@@ -1,16 +1,15 @@
 -- Document 01, 'Store': what the lent tables hold, and what each call makes of it, as functions on the tables' contents.
-use Prim.Native.Nat.{ℕ, zero, suc, _+_, _-_, _*_, _≤_, _<_}
+use Prim.Native.Nat.{ℕ, zero, suc, _+_, _-_, _*_, _≤_}
 use mathlib.Core.Path.{_≡_}
 use mathlib.Core.List.{List, [], _∷_, _++_, map}
-use mathlib.Core.Bool.{Bool, true, false}
+use mathlib.Core.Bool.{Bool, false}
 use lib.Dec.{ltb, eqb}
 use lib.ListN.{length, getD, take, drop, replicate}
 use lib.Seq.{sets}
 use Rattle.laws.specs.Choice.{pick}
-use Rattle.slots.specs.Slots.{has, inserted, removed, others, members, listed}
-use Rattle.terms.specs.Terms.{numbers, sigRefusal, refusal}
+use Rattle.slots.specs.Slots.{has, inserted, removed, others}
+use Rattle.terms.specs.Terms.{numbers, refusal}
 use Rattle.keys.specs.Keys.{endOf}
-use Rattle.keys.specs.Bytes.{isKey}
 use Rattle.chains.specs.Chains.{find, longer}
 use Rattle.bank.specs.Bank.{Sets, four, met}
 use Rattle.paths.specs.Rep.{lab}
@@ -18,7 +17,7 @@ use Rattle.paths.specs.Ups.{upsF}
 use Rattle.paths.specs.Insert.{St}
 use Rattle.paths.specs.Locate.{missing}
 use Rattle.walks.specs.Fill.{tables, fill, insFill, delFill}
-use Rattle.layout.specs.Layout.{longEnough, signatureOf, termOf, usedOf, isUsed, blank, signed, withTerm}
+use Rattle.layout.specs.Layout.{longEnough, signatureOf, termOf, usedOf, blank, signed, withTerm}
 
 -- the contents of the eight lent tables (docs/TABLES.md)
 pub record Tables : Type 0 where
