@@ -6,4 +6,5 @@ pub mod Links
 pub mod Means
 pub mod Opening
 pub mod Question
+pub mod Same
 pub mod Tables
