@@ -25,7 +25,7 @@ use Rattle.paths.specs.Insert.{RK, With}
 use Rattle.paths.specs.Locate.{numList, missing, located as locatedKeys, lack-of}
 use Rattle.paths.specs.Store.{Stored, KeyIn, put, Fine, fine-back, fine-nodup, fine-in}
 use Rattle.paths.specs.Spelt.{spelt}
-use Rattle.paths.specs.Count.{Distinct, keys-refused}
+use Rattle.paths.specs.Count.{Distinct, keys-then, keys-refused}
 use Rattle.walks.specs.Means.{GoodSt, insert-means, delete-means, fill-nums}
 use Rattle.layout.specs.Layout.{termOf, usedOf, isUsed, withTerm}
 use Rattle.layout.proofs.Laws.{signature-good, length-with-term}
@@ -258,6 +258,22 @@ distinct-iff R Q n e d = record {
 abbrev pub KeysOf : List ℕ → Slots → ℕ → Place → ℕ → Type 0
 KeysOf sig st = Stored (trees sig st)
 
+-- the distinct keys of the store with the term
+pub keys-after : (T : Tables) (sig : List ℕ) (st : Slots) (t : List ℕ) (s : ℕ) → Holds T sig st → refusal sig t ≡ 0 → st s ≡ none → (N : ℕ) × Distinct (KeysOf sig (changed st s (some t))) N
+keys-after T sig st t s h r e =
+    let u = treeOf sig t in
+    let w = drawn sig t (subst Signed (h .signature) (signature-good (T .bytes))) r in
+    let d = keys-then (T .link) (T .label) (mem (indexOf T .sets)) (Stored (trees sig st)) (h .index .rep) (h .index .full) s (keyList [] (upsT 0 0 u) (endsT u)) (missing (numList (T .link) (T .label) [] (upsT 0 0 u) (endsT u))) (fine-nodup u (w .fine))
+    (lack-of (T .label) (numList (T .link) (T .label) [] (upsT 0 0 u) (endsT u)) (keyList [] (upsT 0 0 u) (endsT u)) (locatedKeys (T .link) (T .label) (mem (indexOf T .sets)) (Stored (trees sig st)) (h .index .rep) (upsT 0 0 u) (endsT u) [] [] tt (fine-back u (w .fine)) (w .fine .ends))) in
+    (_, distinct-iff _ _ _ (λ a P x. seen-back a P x (with-stored (trees sig st) s u (ap (treeIn sig) e) (w .fine) a P x)) d)
+  where
+    seen-back : (a : ℕ) (P : Place) (x : ℕ) → Stored (put (trees sig st) s (some (treeOf sig t))) a P x ↔ With (Stored (trees sig st)) s (keyList [] (upsT 0 0 (treeOf sig t)) (endsT (treeOf sig t))) a P x
+        → With (Stored (trees sig st)) s (keyList [] (upsT 0 0 (treeOf sig t)) (endsT (treeOf sig t))) a P x ↔ KeysOf sig (changed st s (some t)) a P x
+    seen-back a P x i = (
+      (λ q. subst (λ (o : Option Tm). KeyIn o P x) (trees-changed sig st s (some t) a) (i .1 q)),
+      (λ (q : KeyIn (trees sig (changed st s (some t)) a) P x). i .0 (subst (λ (o : Option Tm). KeyIn o P x) (sym (trees-changed sig st s (some t) a)) q)),
+    )
+
 pub room-means : (T : Tables) (sig : List ℕ) (st : Slots) (t : List ℕ) (s N : ℕ) → Holds T sig st → refusal sig t ≡ 0 → st s ≡ none → Distinct (KeysOf sig (changed st s (some t))) N
     → (roomFor (T .link) (T .label) (upsOf sig t) (endsOf sig t) ≡ true) ↔ (N ≤ 4096)
 room-means T sig st t s N h r e d =
@@ -279,8 +295,10 @@ room-means T sig st t s N h r e d =
     f = room-frees T sig st t h w
 
     seen : (a : ℕ) (P : Place) (x : ℕ) → KeysOf sig (changed st s (some t)) a P x ↔ Stored (put (trees sig st) s (some u)) a P x
-    seen a P x = ((λ (q : KeyIn (trees sig (changed st s (some t)) a) P x). subst (λ (o : Option Tm). KeyIn o P x) (sym (trees-changed sig st s (some t) a)) q),
-        (λ (q : KeyIn (put (trees sig st) s (some u) a) P x). subst (λ (o : Option Tm). KeyIn o P x) (trees-changed sig st s (some t) a) q))
+    seen a P x = (
+      (λ (q : KeyIn (trees sig (changed st s (some t)) a) P x). subst (λ (o : Option Tm). KeyIn o P x) (sym (trees-changed sig st s (some t) a)) q),
+      (λ (q : KeyIn (put (trees sig st) s (some u) a) P x). subst (λ (o : Option Tm). KeyIn o P x) (trees-changed sig st s (some t) a) q),
+    )
 
     d′ : Distinct (With (Stored (trees sig st)) s (keyList [] (upsT 0 0 u) (endsT u))) N
     d′ = distinct-iff _ _ N (with-stored (trees sig st) s u (ap (treeIn sig) e) (w .fine)) (distinct-iff _ _ N seen d)

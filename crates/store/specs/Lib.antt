@@ -1,7 +1,10 @@
+pub mod Answers
 pub mod Calls
 pub mod Changes
 pub mod Kept
 pub mod Links
 pub mod Means
 pub mod Opening
+pub mod Question
+pub mod Same
 pub mod Tables

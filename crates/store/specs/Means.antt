@@ -93,7 +93,7 @@ holds-ample T sig st h =
     let l = h .index .ok .long in
     long-is _ _ _ _ _ _ _ _ (h .bytes) (h .used) (h .index .labels) (h .index .links) (l 0 (omega arith)) (l 1 (omega arith)) (l 2 (omega arith)) (l 3 (omega arith))
 
-zero-digit : (i : ℕ) → bit 0 i ≡ 0
+pub zero-digit : (i : ℕ) → bit 0 i ≡ 0
 zero-digit zero = bit-zero 0
 zero-digit (suc i) = bit-suc 0 i ∙ zero-digit i
 

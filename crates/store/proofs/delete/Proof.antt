@@ -1,13 +1,8 @@
-use Prim.Native.Nat.{ℕ, _≤_, _-_, _+_, _<_, _*_}
-use mathlib.Core.Path.{_≡_, refl, sym, ap, _∙_}
-use native.Mathlib.Omega.{arith}
+use Prim.Native.Nat.{_-_}
+use mathlib.Core.Path.{sym, _∙_}
 use borrow.Author.Needs.{needs}
 use borrow.Author.Tests.{not-true, not-false}
-use lib.ListN.{length, take, length-drop}
-use lib.Seq.{length-take-le}
-use Rattle.layout.proofs.Laws.{long, signature-good, in-use-small}
-use Rattle.terms.specs.Terms.{Signed}
-use Rattle.terms.proofs.Laws.{checked-good, checked-signed}
+use Rattle.layout.proofs.Laws.{long, in-use-small}
 use Rattle.store.proofs.Laws.{sized}
 use mathlib.Core.Bool.{true, false}
 use Rattle.store.proofs.Public.{fair, delete-short, delete-none, delete-done}

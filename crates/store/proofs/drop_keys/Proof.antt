@@ -1,8 +1,7 @@
-use Prim.Native.Nat.{ℕ, _≤_, _-_, _+_, _<_, _*_}
-use mathlib.Core.Path.{_≡_, refl, sym, ap, _∙_}
+use Prim.Native.Nat.{_-_}
+use mathlib.Core.Path.{sym, _∙_}
 use native.Mathlib.Omega.{arith}
 use borrow.Author.Needs.{needs}
-use lib.ListN.{length, take}
 use lib.Seq.{length-take-le}
 use Rattle.store.proofs.Parts.{keys-dropped}
 use Rattle.store.proofs.drop_keys.Statement.{statement}

@@ -1,4 +1,3 @@
-use mathlib.Core.Path.{_≡_}
 use Rattle.layout.proofs.Laws.{signature-good}
 use borrow.Author.Needs.{needs}
 use borrow.Author.Tests.{not-true, not-false}

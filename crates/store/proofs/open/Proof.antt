@@ -1,13 +1,9 @@
-use Prim.Native.Nat.{ℕ, _≤_, _-_, _+_, _<_, _*_}
-use mathlib.Core.Path.{_≡_, refl, sym, ap, _∙_}
-use native.Mathlib.Omega.{arith}
+use Prim.Native.Nat.{_-_}
+use mathlib.Core.Path.{sym, _∙_}
 use borrow.Author.Needs.{needs}
 use borrow.Author.Tests.{not-true, not-false}
-use lib.ListN.{length, take, length-drop}
-use lib.Seq.{length-take-le}
-use Rattle.layout.proofs.Laws.{long, signature-good}
-use Rattle.terms.specs.Terms.{Signed}
-use Rattle.terms.proofs.Laws.{checked-good, checked-signed}
+use Rattle.layout.proofs.Laws.{long}
+use Rattle.terms.proofs.Laws.{checked-signed}
 use Rattle.store.proofs.Laws.{sized}
 use Rattle.store.proofs.Public.{fair, open-short, open-bad, open-done}
 use mathlib.Core.Bool.{true, false}

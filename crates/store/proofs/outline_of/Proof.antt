@@ -1,13 +1,8 @@
-use Prim.Native.Nat.{ℕ, _≤_, _-_, _+_, _<_, _*_}
-use mathlib.Core.Path.{_≡_, refl, sym, ap, _∙_}
+use Prim.Native.Nat.{_-_}
+use mathlib.Core.Path.{refl, sym}
 use native.Mathlib.Omega.{arith}
 use borrow.Author.Needs.{needs}
-use borrow.Author.Tests.{not-true, not-false}
-use lib.ListN.{length, take, length-drop}
 use lib.Seq.{length-take-le}
-use Rattle.layout.proofs.Laws.{long, signature-good}
-use Rattle.terms.specs.Terms.{Signed}
-use Rattle.terms.proofs.Laws.{checked-good, checked-signed}
 use Rattle.store.proofs.Parts.{outlined}
 use Rattle.store.proofs.outline_of.Statement.{statement}
 use Rattle.store.proofs.outline_of.Tie as tie
