@@ -4,3 +4,8 @@ pub mod Counting
 pub mod Room
 pub mod Keyed
 pub mod Solved
+pub mod Confirmed
+pub mod Changing
+pub mod Runs
+pub mod Means
+pub mod Quiet
