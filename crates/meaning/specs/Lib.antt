@@ -9,3 +9,5 @@ pub mod Changing
 pub mod Runs
 pub mod Means
 pub mod Quiet
+pub mod Opening
+pub mod Demands
