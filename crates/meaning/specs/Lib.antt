@@ -4,3 +4,5 @@ pub mod Counting
 pub mod Room
 pub mod Keyed
 pub mod Solved
+pub mod Confirmed
+pub mod Changing

@@ -17,6 +17,7 @@ use Rattle.theory.specs.Flat.{Item}
 use Rattle.theory.specs.Unify.{Bind, full}
 use Rattle.theory.specs.Items.{arity, items, shift}
 use Rattle.theory.specs.Relations.{Decided, decided-one, Unifies}
+use Rattle.theory.specs.Checked.{fine}
 use Rattle.theory.specs.Solver.{Solution}
 use Rattle.definitions.specs.Spelt.{clash}
 use Rattle.definitions.specs.Relations.{Stands}
@@ -139,4 +140,4 @@ module _ (sig t q : List ℕ) (g : sigRefusal sig ≡ 0) (h : refusal sig t ≡ 
 
   -- the running solver's result is the store's answer
   pub solved-means : (out₀ out : List ℕ) (r : Recorded) → Promise sig (items t) (shift 32 (items q)) out₀ out r → Solves (recorded (bindings? sig t q) (length out₀)) out₀ out r
-  solved-means out₀ out r p = solves (bindings? sig t q) (bindings-right sig t q g h k) out₀ out r p
+  solved-means out₀ out r p = solves (bindings? sig t q) (bindings-right sig t q (fine sig t g h) (fine sig q g k)) out₀ out r p

@@ -1,0 +1,190 @@
+-- Opening, insert and delete: what the tables answer is what the store answers, and afterwards they stand for the store afterwards.
+use Prim.Native.Nat.{ℕ, zero, suc, _+_, _≤_, _<_}
+use mathlib.Core.Path.{_≡_, refl, sym, ap, _∙_, subst}
+use mathlib.Core.List.{List}
+use mathlib.Core.Bool.{Bool, true, false}
+use mathlib.Core.Option.{Option, some, none}
+use native.Mathlib.Omega.{arith}
+use native.Mathlib.Decide.{ℕ-discrete, decLt}
+use borrow.Author.Tests.{eq-eqb, ne-eqb, eqb-true, eqb-false, lt-ltb, le-ltb, ltb-true}
+use lib.Dec.{eqb, ltb}
+use lib.ListN.{length}
+use Rattle.laws.specs.Choice.{pick}
+use Rattle.terms.specs.Terms.{aritiesGood, sigRefusal, refusal}
+use Rattle.keys.specs.Keys.{Tm}
+use Rattle.definitions.specs.Trees.{treeOf}
+use Rattle.definitions.specs.Spelt.{clash}
+use Rattle.definitions.specs.Store.{Store, holding, inUse, freeFrom, firstFree, put, keyCount, Answer, refused, opened, slot, slots, found, solved, openWith, insert, delete, answered, empty, unless, after}
+use Rattle.layout.specs.Layout.{signatureOf, isUsed}
+use Rattle.layout.specs.Tables.{Tables, ample}
+use Rattle.layout.proofs.Laws.{long}
+use Rattle.store.specs.Tables.{upsOf, endsOf, roomFor, openedWith, freeSlot, insertedAt, deletedAt}
+use Rattle.store.specs.Calls.{Outcome, done, refusedBy, opening, inserting, deleting}
+use Rattle.store.specs.Means.{filled, good-same, holds-ample, open-holds}
+use Rattle.store.specs.Means as Slots
+use Rattle.store.specs.Changes.{insert-holds, delete-holds, use-means}
+use Rattle.meaning.specs.Holds.{treeIn, treesOf, Sound, Holds}
+use Rattle.meaning.specs.Lists.{free-first}
+use Rattle.meaning.specs.Room.{room-test}
+use Rattle.meaning.specs.Keyed.{refusalIn, countIn}
+
+-- the tables stand for the store, by a signature that was checked
+pub record Stand (T : Tables) (st : Store) : Type 0 where
+  pub signed : sigRefusal (st .signature) ≡ 0
+  pub holds : Slots.Holds T (st .signature) (st .held)
+
+module _ (T : Tables) (st : Store) (h : Stand T st) where
+  used-slots : (s : ℕ) → isUsed (T .used) s ≡ inUse st s
+  unfolding inUse
+  used-slots s = use-means T (st .signature) (st .held) s (h .holds) ∙ go (decLt s 512)
+    where
+      both : (o : Option (List ℕ)) → eqb (filled o) 1 ≡ holding (λ t. true) o
+      both none = refl
+      both (some t) = refl
+
+      go : Dec (s < 512) → eqb (filled (st .held s)) 1 ≡ pick (ltb s 512) (holding (λ t. true) (st .held s)) false
+      go (yes l) = rw (lt-ltb s 512 l) (both (st .held s))
+      go (no l) = rw (le-ltb s 512 (omega arith), h .holds .beyond s (omega arith))
+
+  same-tree : (s : ℕ) → Slots.trees (st .signature) (st .held) s ≡ treesOf st s
+  same-tree s = go (st .held s)
+    where
+      go : (o : Option (List ℕ)) → Slots.treeIn (st .signature) o ≡ treeIn (st .signature) o
+      go none = refl
+      go (some t) = refl
+
+  pub stand-holds : Holds T st
+  stand-holds = record {
+    sound = record { signed = h .signed; bounded = h .holds .beyond; checked = λ s t e. h .holds .terms s t e .1 };
+    long = holds-ample T (st .signature) (st .held) (h .holds);
+    signature = h .holds .signature;
+    slots = used-slots;
+    terms = λ s t e. h .holds .terms s t e .0;
+    index = good-same _ _ _ same-tree (h .holds .index);
+  }
+
+-- an outcome is an answer, and its tables stand for a store
+pub record Does (o : Outcome) (a : Answer) (st : Store) : Type 0 where
+  pub number : o .refused ≡ refusalIn a
+  pub value : o .value ≡ countIn a
+  pub stand : Stand (o .after) st
+
+does-refused : (n : ℕ) (T : Tables) (st : Store) → Stand T st → Does (refusedBy n T) (refused n) st
+does-refused n T st h = record { number = refl; value = refl; stand = h }
+
+-- OPENING of any tables that are long enough
+pub open-stand : (T : Tables) (sig : List ℕ) → ample T ≡ true → sigRefusal sig ≡ 0 → Stand (openedWith T sig) (empty sig)
+unfolding ample empty
+open-stand T sig l s = record { signed = s; holds = open-holds T sig (long _ _ _ _ _ _ _ _ l) s }
+
+signature-two : (sig : List ℕ) → (sigRefusal sig ≡ 0 → ⊥) → sigRefusal sig ≡ 2
+unfolding sigRefusal
+signature-two sig n = go (eqb (length sig) 0) (ltb 256 (length sig)) (aritiesGood sig) n
+  where
+    go : (a b c : Bool) → (pick {A = ℕ} a 2 (pick {A = ℕ} b 2 (pick {A = ℕ} c 0 2)) ≡ 0 → ⊥) → pick {A = ℕ} a 2 (pick {A = ℕ} b 2 (pick {A = ℕ} c 0 2)) ≡ 2
+    go true b c n = refl
+    go false true c n = refl
+    go false false true n = absurd (n refl)
+    go false false false n = refl
+
+pub opening-does : (T : Tables) (st : Store) (sig : List ℕ) → Stand T st → Does (opening T sig) (answered st (openWith sig)) (after st (openWith sig))
+unfolding opening after answered
+opening-does T st sig h = rw (holds-ample T (st .signature) (st .held) (h .holds)) (go (eqb (sigRefusal sig) 0) refl)
+  where
+    go : (b : Bool) → eqb (sigRefusal sig) 0 ≡ b → Does (pick b (done 0 (openedWith T sig)) (refusedBy (sigRefusal sig) T)) (pick b opened (refused 2)) (unless (pick b opened (refused 2)) st (empty sig))
+    go true e = record { number = refl; value = refl; stand = open-stand T sig (holds-ample T (st .signature) (st .held) (h .holds)) (eqb-true (sigRefusal sig) 0 e) }
+    go false e = rw (signature-two sig (eqb-false (sigRefusal sig) 0 e)) (does-refused 2 T st h)
+
+-- and the first opening, on tables that stand for nothing yet
+pub opening-first : (T : Tables) (sig : List ℕ) → ample T ≡ true → sigRefusal sig ≡ 0 → opening T sig ≡ done 0 (openedWith T sig)
+unfolding opening
+opening-first T sig l s = rw (l, eq-eqb (sigRefusal sig) 0 s)
+
+-- DELETE
+put-held : (st : Store) (s : ℕ) (o : Option (List ℕ)) (T : Tables) → sigRefusal (st .signature) ≡ 0 → Slots.Holds T (st .signature) (Slots.changed (st .held) s o) → Stand T (put st s o)
+unfolding put Slots.changed
+put-held st s o T g h = record { signed = g; holds = h }
+
+in-use : (st : Store) (s : ℕ) → inUse st s ≡ true → (s < 512) × ((t : List ℕ) × (st .held s ≡ some t))
+unfolding inUse
+in-use st s h = go (ltb s 512) refl h
+  where
+    full : (o : Option (List ℕ)) → holding (λ t. true) o ≡ true → (t : List ℕ) × (o ≡ some t)
+    full none h = clash h
+    full (some t) h = (t, refl)
+
+    go : (b : Bool) → ltb s 512 ≡ b → pick b (holding (λ t. true) (st .held s)) false ≡ true → (s < 512) × ((t : List ℕ) × (st .held s ≡ some t))
+    go true e h = (ltb-true s 512 e, full (st .held s) h)
+    go false e h = clash h
+
+pub deleting-does : (T : Tables) (st : Store) (s : ℕ) → Stand T st → Does (deleting T s) (answered st (delete s)) (after st (delete s))
+unfolding deleting after answered
+deleting-does T st s h = rw (holds-ample T (st .signature) (st .held) (h .holds), used-slots T st h s) (go (inUse st s) refl)
+  where
+    go : (b : Bool) → inUse st s ≡ b → Does (pick b (done s (deletedAt T s)) (refusedBy 4 T)) (pick b (slot s) (refused 4)) (unless (pick b (slot s) (refused 4)) st (put st s none))
+    go true e = let w = in-use st s e in
+        record { number = refl; value = refl; stand = put-held st s none (deletedAt T s) (h .signed) (delete-holds T (st .signature) (st .held) (w .1 .0) s (h .holds) (w .0) (w .1 .1)) }
+    go false e = does-refused 4 T st h
+
+-- INSERT: the smallest free slot is free
+free-most : (st : Store) (k s : ℕ) → freeFrom st k s ≤ s + k
+unfolding freeFrom
+free-most st zero s = omega arith
+free-most st (suc k) s = go (inUse st s) (free-most st k (suc s))
+  where
+    go : (b : Bool) → freeFrom st k (suc s) ≤ suc s + k → pick b (freeFrom st k (suc s)) s ≤ s + suc k
+    go true h = omega arith
+    go false h = omega arith
+
+free-is : (st : Store) (k s : ℕ) → freeFrom st k s < s + k → inUse st (freeFrom st k s) ≡ false
+unfolding freeFrom
+free-is st zero s h = absurd (omega arith)
+free-is st (suc k) s h = go (inUse st s) refl h (free-is st k (suc s))
+  where
+    go : (b : Bool) → inUse st s ≡ b → pick b (freeFrom st k (suc s)) s < s + suc k → (freeFrom st k (suc s) < suc s + k → inUse st (freeFrom st k (suc s)) ≡ false) → inUse st (pick b (freeFrom st k (suc s)) s) ≡ false
+    go true e h ih = ih (omega arith)
+    go false e h ih = e
+
+not-in-use : (st : Store) (s : ℕ) → s < 512 → inUse st s ≡ false → st .held s ≡ none
+unfolding inUse
+not-in-use st s l h = go (st .held s) (rw (lt-ltb s 512 l) at h)
+  where
+    go : (o : Option (List ℕ)) → holding (λ t. true) o ≡ false → o ≡ none
+    go none h = refl
+    go (some t) h = clash (sym h)
+
+pub inserting-does : (T : Tables) (st : Store) (t : List ℕ) → Stand T st → Does (inserting T t) (answered st (insert t)) (after st (insert t))
+unfolding inserting after answered
+inserting-does T st t h =
+    rw (holds-ample T (st .signature) (st .held) (h .holds), h .holds .signature, free-first (T .used) st (h .holds .words) (λ s l. used-slots T st h s)) (go (eqb (refusal (st .signature) t) 0) refl)
+  where
+    most : firstFree st ≤ 512
+    most = free-most st 512 0
+
+    roomy : (b : Bool) → roomFor (T .link) (T .label) (upsOf (st .signature) t) (endsOf (st .signature) t) ≡ b → refusal (st .signature) t ≡ 0 → firstFree st < 512
+        → Does (pick b (done (firstFree st) (insertedAt T t (firstFree st))) (refusedBy 12 T)) (pick (pick b false true) (refused 12) (slot (firstFree st)))
+        (unless (pick (pick b false true) (refused 12) (slot (firstFree st))) st (put st (firstFree st) (some t)))
+    roomy true e r l = record {
+      number = refl;
+      value = refl;
+      stand = put-held st (firstFree st) (some t) (insertedAt T t (firstFree st)) (h .signed)
+          (insert-holds T (st .signature) (st .held) t (firstFree st) (h .holds) r l (not-in-use st (firstFree st) l (free-is st 512 0 l)) e);
+    }
+    roomy false e r l = does-refused 12 T st h
+
+    free : Dec (firstFree st < 512) → refusal (st .signature) t ≡ 0
+        → Does (pick (ltb (firstFree st) 512) (pick (roomFor (T .link) (T .label) (upsOf (st .signature) t) (endsOf (st .signature) t)) (done (firstFree st) (insertedAt T t (firstFree st))) (refusedBy 12 T)) (refusedBy 11 T))
+        (pick (eqb (firstFree st) 512) (refused 11) (pick (ltb 4096 (keyCount (put st (firstFree st) (some t)))) (refused 12) (slot (firstFree st))))
+        (unless (pick (eqb (firstFree st) 512) (refused 11) (pick (ltb 4096 (keyCount (put st (firstFree st) (some t)))) (refused 12) (slot (firstFree st)))) st (put st (firstFree st) (some t)))
+    free (yes l) r =
+        let g = stand-holds T st h in
+        let m = room-test T st (firstFree st) t (g .sound) (g .index) l (not-in-use st (firstFree st) l (free-is st 512 0 l)) r in
+        rw (lt-ltb (firstFree st) 512 l, ne-eqb (firstFree st) 512 (λ z. omega arith), m) (roomy (roomFor (T .link) (T .label) (upsOf (st .signature) t) (endsOf (st .signature) t)) refl r l)
+    free (no l) r = rw (le-ltb (firstFree st) 512 (omega arith), eq-eqb (firstFree st) 512 (omega (arith, most))) (does-refused 11 T st h)
+
+    go : (b : Bool) → eqb (refusal (st .signature) t) 0 ≡ b
+        → Does (pick b (pick (ltb (firstFree st) 512) (pick (roomFor (T .link) (T .label) (upsOf (st .signature) t) (endsOf (st .signature) t)) (done (firstFree st) (insertedAt T t (firstFree st))) (refusedBy 12 T)) (refusedBy 11 T)) (refusedBy (refusal (st .signature) t) T))
+        (pick b (pick (eqb (firstFree st) 512) (refused 11) (pick (ltb 4096 (keyCount (put st (firstFree st) (some t)))) (refused 12) (slot (firstFree st)))) (refused (refusal (st .signature) t)))
+        (unless (pick b (pick (eqb (firstFree st) 512) (refused 11) (pick (ltb 4096 (keyCount (put st (firstFree st) (some t)))) (refused 12) (slot (firstFree st)))) (refused (refusal (st .signature) t))) st (put st (firstFree st) (some t)))
+    go true e = free (decLt (firstFree st) 512) (eqb-true (refusal (st .signature) t) 0 e)
+    go false e = does-refused (refusal (st .signature) t) T st h
