@@ -3,5 +3,6 @@ pub mod Means
 pub mod Numbers
 pub mod One
 pub mod Retrieving
+pub mod Served
 pub mod Solving
 pub mod Stands
