@@ -1,3 +1,4 @@
+pub mod Listing
 pub mod Means
 pub mod Numbers
 pub mod One
