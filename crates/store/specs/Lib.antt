@@ -6,6 +6,5 @@ pub mod Links
 pub mod Means
 pub mod Opening
 pub mod Question
-pub mod Runs
 pub mod Same
 pub mod Tables
