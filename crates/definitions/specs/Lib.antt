@@ -10,6 +10,7 @@ pub mod LinearTrees
 pub mod ReadBack
 pub mod Records
 pub mod Relations
+pub mod Sound
 pub mod Spelt
 pub mod Store
 pub mod Trees
