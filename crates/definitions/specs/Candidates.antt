@@ -30,7 +30,8 @@ opens r = pick (eqb r 2) true (eqb r 4)
 abbrev pub stars : ℕ → Bool
 stars r = pick (eqb r 3) true (eqb r 4)
 
--- does the stored term t stay a candidate for the question q in relation r
+-- does the stored term t stay a candidate for the question q in relation r, 0 to 4; a number above 4 is refused before (3, RELATION)
+-- and nothing is asked here
 unfoldable pub candidate : ℕ → Tm → Tm → Bool
 candidate r q t = agree (opens r) (stars r) q t
 

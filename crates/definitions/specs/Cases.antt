@@ -35,18 +35,28 @@ pub data Claim : Type 0 where
   fits : Claim
   refused : ℕ → Claim
 
+-- both byte strings are terms
+abbrev pub Taken : List ℕ → List ℕ → List ℕ → Type 0
+Taken sig t q = (refusal sig t ≡ 0) × (refusal sig q ≡ 0)
+
+-- the value of the written variable y has n items; no value has over 2,048
+abbrev pub Valued : List ℕ → List ℕ → List ℕ → ℕ → ℕ → Type 0
+Valued sig t q y n = (θ : ℕ → List Item) × Unifier sig (items t) (shift 32 (items q)) θ × (length (θ y) ≡ n)
+
+abbrev pub Fits : List ℕ → List ℕ → List ℕ → Type 0
+Fits sig t q = (θ : ℕ → List Item) × Unifier sig (items t) (shift 32 (items q)) θ × Short θ
+
 abbrev pub Holds : List ℕ → List ℕ → List ℕ → Claim → Type 0
 -- the stored term is a candidate of relation r, or is none
-Holds sig t q (stays r) = isCandidate sig r q t ≡ true
-Holds sig t q (drops r) = isCandidate sig r q t ≡ false
+Holds sig t q (stays r) = Taken sig t q × (isCandidate sig r q t ≡ true)
+Holds sig t q (drops r) = Taken sig t q × (isCandidate sig r q t ≡ false)
 -- it is an answer of relation r, or is none
-Holds sig t q (answers r) = Stands sig r t q
-Holds sig t q (fails r) = Stands sig r t q → ⊥
+Holds sig t q (answers r) = Taken sig t q × Stands sig r t q
+Holds sig t q (fails r) = Taken sig t q × (Stands sig r t q → ⊥)
 -- the record's bytes
-Holds sig t q (writes w) = IsRecord sig t q w
--- the value of the written variable y has n items; no value has over 2,048
-Holds sig t q (valued y n) = (θ : ℕ → List Item) × Unifier sig (items t) (shift 32 (items q)) θ × (length (θ y) ≡ n)
-Holds sig t q fits = (θ : ℕ → List Item) × Unifier sig (items t) (shift 32 (items q)) θ × Short θ
+Holds sig t q (writes w) = Taken sig t q × IsRecord sig t q w
+Holds sig t q (valued y n) = Taken sig t q × Valued sig t q y n
+Holds sig t q fits = Taken sig t q × Fits sig t q
 -- the number of the refusal of the stored term's bytes
 Holds sig t q (refused n) = refusal sig t ≡ n
 
@@ -158,8 +168,8 @@ module _ (sig : List ℕ) where
   taken t q = both (eqb (refusal sig t) 0) (eqb (refusal sig q) 0)
 
   abbrev check : List ℕ → List ℕ → Claim → Bool
-  check t q (stays r) = isCandidate sig r q t
-  check t q (drops r) = opposite (isCandidate sig r q t)
+  check t q (stays r) = both (taken t q) (isCandidate sig r q t)
+  check t q (drops r) = both (taken t q) (opposite (isCandidate sig r q t))
   check t q (answers r) = both (taken t q) (stands sig r t q)
   check t q (fails r) = both (taken t q) (opposite (stands sig r t q))
   check t q (writes w) = both (taken t q) (is (record? sig t q) w)
@@ -186,34 +196,35 @@ module _ (sig : List ℕ) where
   abbrev Solved : List ℕ → List ℕ → Option (List Bind) → Type 0
   Solved t q o = Solution (arity sig) (items t) (shift 32 (items q)) o
 
-  long-is : (t q : List ℕ) (y n : ℕ) (o : Option (List Bind)) → Solved t q o → long y n o ≡ true → Holds sig t q (valued y n)
+  long-is : (t q : List ℕ) (y n : ℕ) (o : Option (List Bind)) → Solved t q o → long y n o ≡ true → Valued sig t q y n
   long-is t q y n none h e = absurd (let z : _≡_ {A = ℕ} 0 1 = cc in omega arith)
   long-is t q y n (some B) h e = (full B, record { mgu = h .1; least = h .2 }, eqb-true (length (full B y)) n e)
 
-  short-is : (t q : List ℕ) (o : Option (List Bind)) → Solved t q o → short o ≡ true → Holds sig t q fits
+  short-is : (t q : List ℕ) (o : Option (List Bind)) → Solved t q o → short o ≡ true → Fits sig t q
   short-is t q none h e = absurd (let z : _≡_ {A = ℕ} 0 1 = cc in omega arith)
   short-is t q (some B) h e = (full B, record { mgu = h .1; least = h .2 }, λ y b. short-from (full B) 64 0 e y (omega arith) (omega arith))
 
   module _ (s : sigRefusal sig ≡ 0) where
-    with-taken : (t q : List ℕ) (b : Bool) → both (taken t q) b ≡ true → (refusal sig t ≡ 0) × (refusal sig q ≡ 0) × (b ≡ true)
+    with-taken : (t q : List ℕ) (b : Bool) → both (taken t q) b ≡ true → Taken sig t q × (b ≡ true)
     with-taken t q b e =
         let h = both-true (taken t q) b e in
-        let k = both-true (eqb (refusal sig t) 0) (eqb (refusal sig q) 0) (h .0) in (eqb-true (refusal sig t) 0 (k .0), eqb-true (refusal sig q) 0 (k .1), h .1)
+        let k = both-true (eqb (refusal sig t) 0) (eqb (refusal sig q) 0) (h .0) in ((eqb-true (refusal sig t) 0 (k .0), eqb-true (refusal sig q) 0 (k .1)), h .1)
 
     holds : (t q : List ℕ) (c : Claim) → check t q c ≡ true → Holds sig t q c
-    holds t q (stays r) e = e
-    holds t q (drops r) e = opposite-true (isCandidate sig r q t) e
-    holds t q (answers r) e = let h = with-taken t q (stands sig r t q) e in stands-right sig r t q s (h .0) (h .1) .holds (h .2)
+    holds t q (stays r) e = with-taken t q (isCandidate sig r q t) e
+    holds t q (drops r) e =
+        let h = with-taken t q (opposite (isCandidate sig r q t)) e in (h .0, opposite-true (isCandidate sig r q t) (h .1))
+    holds t q (answers r) e = let h = with-taken t q (stands sig r t q) e in (h .0, stands-right sig r t q s (h .0 .0) (h .0 .1) .holds (h .1))
     holds t q (fails r) e =
-        let h = with-taken t q (opposite (stands sig r t q)) e in stands-right sig r t q s (h .0) (h .1) .fails (opposite-true (stands sig r t q) (h .2))
+        let h = with-taken t q (opposite (stands sig r t q)) e in (h .0, stands-right sig r t q s (h .0 .0) (h .0 .1) .fails (opposite-true (stands sig r t q) (h .1)))
     holds t q (writes w) e =
-        let h = with-taken t q (is (record? sig t q) w) e in record-is t q w (record? sig t q) (record-right sig t q s (h .0) (h .1)) (h .2)
+        let h = with-taken t q (is (record? sig t q) w) e in (h .0, record-is t q w (record? sig t q) (record-right sig t q s (h .0 .0) (h .0 .1)) (h .1))
     holds t q (valued y n) e =
         let h = with-taken t q (long y n (bindings? sig t q)) e in
-        long-is t q y n (bindings? sig t q) (bindings-right sig t q (fine sig t s (h .0)) (fine sig q s (h .1))) (h .2)
+        (h .0, long-is t q y n (bindings? sig t q) (bindings-right sig t q (fine sig t s (h .0 .0)) (fine sig q s (h .0 .1))) (h .1))
     holds t q fits e =
         let h = with-taken t q (short (bindings? sig t q)) e in
-        short-is t q (bindings? sig t q) (bindings-right sig t q (fine sig t s (h .0)) (fine sig q s (h .1))) (h .2)
+        (h .0, short-is t q (bindings? sig t q) (bindings-right sig t q (fine sig t s (h .0 .0)) (fine sig q s (h .0 .1))) (h .1))
     holds t q (refused n) e = eqb-true (refusal sig t) n e
 
     all-hold : (t q : List ℕ) (cs : List Claim) → checkAll t q cs ≡ true → All sig t q cs

@@ -98,7 +98,7 @@ unfoldable mutual
   eachUnifiables held p f i nil = terms held
   eachUnifiables held p f i (cons t ts) = meet (getUnifiables held (step p f i) t) (eachUnifiables held p f (suc i) ts)
 
--- the formula of a relation; relations 0 and 1 have one
+-- the formula of a relation, 0 to 4; relations 0 and 1 share the formula of variants. A number above 4 is refused before (3, RELATION)
 unfoldable pub formula : ℕ → Held → Tm → Set
 formula r held q = pick (eqb r 2) (getInstances held root q) (pick (eqb r 3) (getGeneralizations held root q) (pick (eqb r 4) (getUnifiables held root q) (getVariants held root q)))
 

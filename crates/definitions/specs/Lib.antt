@@ -1,3 +1,4 @@
+pub mod Apart
 pub mod Candidates
 pub mod Cases
 pub mod Decisions
@@ -7,9 +8,12 @@ pub mod KeyBytes
 pub mod Linear
 pub mod LinearFlat
 pub mod LinearTrees
+pub mod Numbers
 pub mod ReadBack
+pub mod Readable
 pub mod Records
 pub mod Relations
+pub mod Sound
 pub mod Spelt
 pub mod Store
 pub mod Trees

@@ -161,7 +161,7 @@ module _ (ar : ℕ → ℕ) where
   cand-shift qv tv n k l m (tvar u q t c) = tvar u q t (cand-shift qv tv n _ _ _ c)
 
 -- shifted variables: no more often than before, and from n on
-in-shift : (n x : ℕ) (l : List Item) → In x (shift n l) → (y : ℕ) × (x ≡ n + y) × In y l
+pub in-shift : (n x : ℕ) (l : List Item) → In x (shift n l) → (y : ℕ) × (x ≡ n + y) × In y l
 in-shift n x [] h = absurd h
 in-shift n x (sy s ∷ l) h = in-shift n x l h
 in-shift n x (va y ∷ l) (inl e) = (y, e, inl refl)

@@ -10,6 +10,9 @@ use mathlib.Core.List.{List, [], _∷_, _++_}
 use lib.Dec.{ltb, eqb}
 use lib.ListN.{length}
 use Rattle.laws.specs.Choice.{pick}
+use Rattle.terms.specs.declared.Refusal.{Refusal}
+use Rattle.terms.specs.declared.Refusal.the-variants as Refusal
+use Rattle.terms.specs.Refusals.{numberOf}
 use Rattle.terms.specs.Terms.{sigRefusal, refusal}
 use Rattle.keys.specs.Keys.{Place, root, step, Key, key}
 use Rattle.keys.specs.Bytes.{isKey}
@@ -119,6 +122,10 @@ pub data Answer : Type 0 where
   -- the number of fields, and the record
   solved : ℕ → List ℕ → Answer
 
+-- a refusal by its name; `refusal` of a term and `sigRefusal` of a signature are numbers of such names too (Numbers)
+abbrev pub refuse : Refusal → Answer
+refuse why = refused (numberOf why)
+
 -- 'the slots in use whose term has that key, ascending'
 unfoldable pub keyed : Store → List ℕ → List ℕ
 keyed st k = slotsWith (λ s. holding (λ t. hasKey (treeOf (st .signature) t) (keyOf k)) (st .held s))
@@ -135,36 +142,36 @@ unfoldable pub longFrom : (ℕ → List Item) → ℕ → ℕ → Bool
 longFrom θ zero y = false
 longFrom θ (suc k) y = pick (ltb 2048 (length (θ y))) true (longFrom θ k (suc y))
 
--- the record of a stored term and a question: 13, 14 and 15 in this order
+-- the record of a stored term and a question: NONE, LONG and ROOM in this order
 abbrev pub recorded : Option (List Bind) → ℕ → Answer
-recorded none room = refused 13
-recorded (some B) room = pick (longFrom (full B) 64 0) (refused 14) (pick (ltb room (length (recordOf (full B)))) (refused 15) (solved (countOf (full B)) (recordOf (full B))))
+recorded none room = refuse Refusal.Nothing
+recorded (some B) room = pick (longFrom (full B) 64 0) (refuse Refusal.Long) (pick (ltb room (length (recordOf (full B)))) (refuse Refusal.Room) (solved (countOf (full B)) (recordOf (full B))))
 
 abbrev pub solving : List ℕ → Option (List ℕ) → List ℕ → ℕ → Answer
-solving sig none q room = refused 4
+solving sig none q room = refuse Refusal.Slot
 solving sig (some t) q room = pick (eqb (refusal sig q) 0) (recorded (bindings? sig t q) room) (refused (refusal sig q))
 
 -- 'a listing is two bytes a slot'
 abbrev pub fits : List ℕ → ℕ → Answer → Answer
-fits l room a = pick (ltb room (2 * length l)) (refused 15) a
+fits l room a = pick (ltb room (2 * length l)) (refuse Refusal.Room) a
 
 -- what a call answers, the lowest refusal that applies first
 unfoldable pub answered : Store → Call → Answer
-answered st (openWith sig) = pick (eqb (sigRefusal sig) 0) opened (refused 2)
+answered st (openWith sig) = pick (eqb (sigRefusal sig) 0) opened (refuse Refusal.Signature)
 answered st (insert t) =
     pick (eqb (refusal (st .signature) t) 0)
-    (pick (eqb (firstFree st) 512) (refused 11)
-    (pick (ltb 4096 (keyCount (put st (firstFree st) (some t)))) (refused 12)
+    (pick (eqb (firstFree st) 512) (refuse Refusal.Full)
+    (pick (ltb 4096 (keyCount (put st (firstFree st) (some t)))) (refuse Refusal.Keys)
     (slot (firstFree st))))
     (refused (refusal (st .signature) t))
-answered st (delete s) = pick (inUse st s) (slot s) (refused 4)
-answered st (withKey k room) = pick (isKey (st .signature) k) (fits (keyed st k) room (slots (keyed st k))) (refused 9)
+answered st (delete s) = pick (inUse st s) (slot s) (refuse Refusal.Slot)
+answered st (withKey k room) = pick (isKey (st .signature) k) (fits (keyed st k) room (slots (keyed st k))) (refuse Refusal.Key)
 answered st (retrieve r q room) =
-    pick (ltb 4 r) (refused 3)
+    pick (ltb 4 r) (refuse Refusal.Relation)
     (pick (eqb (refusal (st .signature) q) 0)
     (fits (answers st r q) room (found (length (candidates st r q)) (answers st r q)))
     (refused (refusal (st .signature) q)))
-answered st (solve s q room) = pick (inUse st s) (solving (st .signature) (st .held s) q room) (refused 4)
+answered st (solve s q room) = pick (inUse st s) (solving (st .signature) (st .held s) q room) (refuse Refusal.Slot)
 
 -- 'opening sets the signature and empties all'
 unfoldable pub empty : List ℕ → Store

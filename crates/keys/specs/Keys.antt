@@ -1,4 +1,4 @@
--- Terms as trees, places in them, and their keys.
+-- Document 01, 'Paths and keys': terms as trees, places in them, and their keys.
 use Prim.Native.Nat.{ℕ, zero, suc, _+_, _-_, _*_, _/_, _%_, _≤_, _<_}
 use mathlib.Core.Path.{_≡_, refl, sym, ap, _∙_}
 use mathlib.Core.Logic.{_⊎_, inl, inr, _↔_, ⊎-elim}

@@ -1,4 +1,4 @@
--- One record: two most general unifiers that take the smallest variable are equal.
+-- Document 01, 'The solver's record', and demand 3: most general unifiers; two that take the smallest variable are equal.
 use mathlib.Core.Path.{_≡_, refl, sym, ap, _∙_}
 use mathlib.Core.Logic.{_⊎_, inl, inr}
 use mathlib.Core.List.{List, [], _∷_, append-nil}

@@ -79,7 +79,8 @@ module _ (ar : ℕ → ℕ) (s t : List Item) (θ : ℕ → List Item) (m : Mgu 
       go (no i) (yes j) = inr j
       go (no i) (no j) = absurd (n (stays x i j a))
 
-  -- a change of items that leaves variables and both terms alone leaves every value alone
+  -- a change of items that leaves variables and both terms alone leaves every value alone: with h a map of the undeclared symbols to
+  -- others of arity 0, no value has any of them
   module _ (h : Item → Item) (hv : (x : ℕ) → h (va x) ≡ va x) (ht : (k : ℕ) (l : List Item) → Terms ar k l → Terms ar k (map h l)) where
     mapped : (l : List Item) → map h l ≡ l → app (λ x. map h (θ x)) l ≡ map h (app θ l)
     mapped [] e = refl

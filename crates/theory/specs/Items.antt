@@ -14,7 +14,8 @@ use Rattle.laws.specs.Choice.{pick}
 use Rattle.terms.specs.Terms.{numbers}
 use Rattle.theory.specs.Flat.{Item, sy, va, Terms}
 
--- 'A value below n is that symbol. 0x8000 + v is variable v'; a written variable may go to 63
+-- 'that symbol' below 0x8000, '0x8000 + v is variable v' from there on. Which numbers are declared symbols and variables 0 to 31 is
+-- the term check's to say (Terms of crate `terms`); a written variable goes to 63
 abbrev pub item16 : ℕ → Item
 item16 c = pick (ltb c 32768) (sy c) (va (c - 32768))
 
@@ -153,7 +154,8 @@ shift-terms ar n (suc k) [] t = absurd t
 shift-terms ar n (suc k) (sy s ∷ l) t = shift-terms ar n (ar s + k) l t
 shift-terms ar n (suc k) (va x ∷ l) t = shift-terms ar n k l t
 
--- a term that the term check takes
+-- what the unifier needs of a term, and the term check shows (Checked, `fine`). The check shows more, as that each symbol is
+-- declared: the exact words are `refusal` and IsTerm
 pub record Fine (sig t : List ℕ) : Type 0 where
   pub sized : length sig ≤ 256
   pub even : length t % 2 ≡ 0

@@ -1,4 +1,5 @@
--- What a call that writes the record promises, and that any two answers that it permits coincide.
+-- Document 01, 'The solver's record' and refusals 13 to 15: what a call that writes the record promises, and that any two answers
+-- that it permits coincide.
 use mathlib.Core.Path.{_≡_, refl, sym, ap, _∙_}
 use mathlib.Core.Logic.{inl, _≢_}
 use mathlib.Core.List.{List, [], _∷_, _++_}

@@ -1,4 +1,4 @@
--- The variable that a written number stands for.
+-- Document 01, 'Term bytes': the variable that a written number stands for.
 use mathlib.Core.Path.{_≡_}
 use Prim.Native.Nat.{ℕ, _+_, _<_}
 use Rattle.variables.specs.declared.Side.{Side}
