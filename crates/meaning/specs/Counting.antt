@@ -1,65 +1,21 @@
 -- The number of distinct keys of a store is the number that the key table counts by; refusal 12.
-use Prim.Native.Nat.{ℕ, zero, suc, _+_, _-_, _*_, _≤_, _<_}
-use mathlib.Core.Path.{_≡_, refl, sym, ap, _∙_, subst}
-use mathlib.Core.Logic.{_⊎_, inl, inr, _↔_, ⊎-elim}
-use mathlib.Core.List.{List, [], _∷_, _++_, append-nil, map}
-use mathlib.Core.Bool.{Bool, true, false}
+use Prim.Native.Nat.{ℕ, zero, suc, _+_, _-_, _≤_, _<_}
+use mathlib.Core.Path.{_≡_, refl, subst}
+use mathlib.Core.Logic.{_⊎_, _↔_, ⊎-elim}
+use mathlib.Core.List.{List, _++_}
 use mathlib.Core.Option.{Option, some, none}
 use native.Mathlib.Omega.{arith}
 use native.Mathlib.Decide.{ℕ-discrete, decLt}
-use borrow.Author.Tests.{eq-eqb, ne-eqb}
-use lib.Dec.{eqb}
-use lib.ListN.{length, getD, take, length-map}
-use Rattle.laws.specs.Choice.{pick}
-use Rattle.laws.specs.Members.{In, NoDup, in-append, in-left, in-right}
-use Rattle.keys.specs.Keys.{Tm, Place, root, Key, key, HasKey}
-use Rattle.terms.specs.Terms.{Signed, refusal}
-use Rattle.definitions.specs.Trees.{treeOf, keysOf}
-use Rattle.definitions.specs.Spelt.{clash, keys-stand}
-use Rattle.definitions.specs.Decisions.{answer}
-use Rattle.definitions.specs.Store.{Store, key?, keysIn, keysFrom, keysHeld, isIn, distinct, keyCount, put}
-use Rattle.paths.specs.Insert.{RK, With}
+use Rattle.laws.specs.Members.{In, in-append, in-left, in-right}
+use Rattle.keys.specs.Keys.{Place, Key, key}
+use Rattle.terms.specs.Terms.{refusal}
+use Rattle.definitions.specs.Spelt.{keys-stand}
+use Rattle.definitions.specs.Store.{Store, keysIn, keysFrom, keysHeld, distinct, keyCount}
+use Rattle.paths.specs.Insert.{RK}
 use Rattle.paths.specs.Store.{Stored, KeyIn}
 use Rattle.paths.specs.Count.{Distinct}
-use Rattle.meaning.specs.Holds.{treeIn, treesOf, Sound}
-
--- the test of membership
-pub isIn-in : (K : Key) (l : List Key) → isIn K l ≡ true → In K l
-isIn-in K [] h = clash h
-isIn-in K (L ∷ l) h = go (key? K L) h (isIn-in K l)
-  where
-    go : (d : Dec (K ≡ L)) → pick (answer d) true (isIn K l) ≡ true → (isIn K l ≡ true → In K l) → (K ≡ L) ⊎ In K l
-    go (yes e) h ih = inl e
-    go (no n) h ih = inr (ih h)
-
-pub isIn-out : (K : Key) (l : List Key) → isIn K l ≡ false → In K l → ⊥
-isIn-out K [] h i = i
-isIn-out K (L ∷ l) h i = go (key? K L) h i (isIn-out K l)
-  where
-    go : (d : Dec (K ≡ L)) → pick (answer d) true (isIn K l) ≡ false → (K ≡ L) ⊎ In K l → (isIn K l ≡ false → In K l → ⊥) → ⊥
-    go (yes e) h i ih = clash (sym h)
-    go (no n) h (inl e) ih = n e
-    go (no n) h (inr i) ih = ih h i
-
--- `distinct` has the keys of its list,
-pub distinct-in : (K : Key) (l : List Key) → In K (distinct l) ↔ In K l
-unfolding distinct
-distinct-in K [] = ((λ i. i), (λ i. i))
-distinct-in K (L ∷ l) = go (isIn L l) refl (distinct-in K l)
-  where
-    go : (b : Bool) → isIn L l ≡ b → In K (distinct l) ↔ In K l → In K (pick b (distinct l) (L ∷ distinct l)) ↔ ((K ≡ L) ⊎ In K l)
-    go true e ih = ((λ i. inr (ih .0 i)), (λ i. ⊎-elim (λ (q : K ≡ L). ih .1 (rw q (isIn-in L l e))) (ih .1) i))
-    go false e ih = ((λ i. ⊎-elim (λ (q : K ≡ L). inl q) (λ j. inr (ih .0 j)) i), (λ i. ⊎-elim (λ (q : K ≡ L). inl q) (λ j. inr (ih .1 j)) i))
-
--- and none twice
-pub distinct-nodup : (l : List Key) → NoDup (distinct l)
-unfolding distinct
-distinct-nodup [] = tt
-distinct-nodup (L ∷ l) = go (isIn L l) refl (distinct-nodup l)
-  where
-    go : (b : Bool) → isIn L l ≡ b → NoDup (distinct l) → NoDup (pick b (distinct l) (L ∷ distinct l))
-    go true e d = d
-    go false e d = ((λ i. isIn-out L l e (distinct-in L l .0 i)), d)
+use Rattle.meaning.specs.Holds.{treeIn, treesOf}
+use Rattle.definitions.specs.Readable.{distinct-in, distinct-nodup}
 
 module _ (st : Store) where
   -- a key of what a slot holds

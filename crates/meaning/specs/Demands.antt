@@ -4,23 +4,39 @@
 -- on all bytes, numbers and lengths, is what it means that the functions are proved at all.
 use Prim.Native.Nat.{ℕ}
 use mathlib.Core.Path.{_≡_, refl, sym, ap, _∙_}
-use mathlib.Core.Logic.{_≢_}
+use mathlib.Core.Logic.{_≢_, _↔_}
 use mathlib.Core.Bool.{Bool, true, false}
-use mathlib.Core.List.{List}
+use mathlib.Core.Option.{some}
+use mathlib.Core.List.{List, _++_}
 use native.Mathlib.Omega.{arith}
-use Rattle.terms.specs.Terms.{sigRefusal}
+use lib.ListN.{length, drop}
+use lib.Seq.{sets}
+use Rattle.laws.specs.Members.{In, NoDup}
+use Rattle.terms.specs.Terms.{sigRefusal, refusal}
+use Rattle.theory.specs.Relations.{Unifiable}
 use Rattle.layout.specs.Tables.{Tables, ample}
-use Rattle.definitions.specs.Store.{Store, Call, answered, after, empty, openWith}
-use Rattle.meaning.specs.Changing.{Stand}
+use Rattle.definitions.specs.Trees.{treeOf}
+use Rattle.definitions.specs.Formulas.{formula, trees}
+use Rattle.definitions.specs.Relations.{Stands}
+use Rattle.definitions.specs.Records.{IsRecord, Short}
+use Rattle.definitions.specs.ReadBack.{Reads, readFields}
+use Rattle.definitions.specs.Sound.{Sound}
+use Rattle.definitions.specs.Readable.{Ascending, ascending-nodup, answers-are, answers-ascend, candidates-are, candidates-ascend, solve-none, solve-solved}
+use Rattle.definitions.specs.Store.{Store, Call, Answer, answered, after, empty, openWith, retrieve, solve, answers, candidates as candidatesIn, listing, written}
+use Rattle.meaning.specs.Changing.{Stand, stand-holds}
 use Rattle.meaning.specs.Means.{call-means}
 use Rattle.meaning.specs.Quiet.{quiet, short-tables}
 use Rattle.meaning.specs.Opening.{open-number, open-run, stand-ample}
+use Rattle.meaning.specs.Told.{front-bytes, refused-number, retrieve-found, solve-found, room-of, room-solve}
 use Rattle.meaning.specs.Runs.{Reply, replyOf, Called, Run, opened, called}
 
 -- the tables stand for the store that the run leads to
 run-stands : (T : Tables) (st : Store) → Run T st → Stand T st
 run-stands T st (opened X S sig out₀ out r c z) = open-run X S sig out₀ out r c z
 run-stands T st (called X S st₀ c out₀ out r k d) = call-means X S st₀ c out₀ out r (run-stands X st₀ k) d .stand
+
+run-sound : (T : Tables) (st : Store) → Run T st → Sound st
+run-sound T st k = stand-holds T st (run-stands T st k) .sound
 
 -- DEMAND 1. 'Each refusal is given exactly under its stated condition, with its number, and changes no byte of tables or answer
 -- buffer': the reply is the store's answer to the call, and a refused call leaves everything.
@@ -42,3 +58,81 @@ demand-1-run T st k = stand-ample T st (run-stands T st k)
 -- 'opening keeps its full promise on all memory'
 pub demand-1-open : (T S : Tables) (sig out₀ out : List ℕ) (r : Reply) → Called T out₀ (openWith sig) S out r → ample T ≡ true → r .refused ≡ sigRefusal sig
 demand-1-open T S sig out₀ out r d a = open-number T S sig out₀ out r a d
+
+-- DEMAND 2. 'After any run of opening, inserts and deletes, a retrieval lists exactly the slots whose term stands in the asked
+-- relation, each once, ascending. The candidates before confirmation are those of the path formulas of SRI Technical Note 473.'
+pub record Retrieval (st : Store) (relation : ℕ) (q out₀ out : List ℕ) (r : Reply) : Type 0 where
+  -- the slots, each once, ascending
+  pub slots : List ℕ
+  pub ascending : Ascending slots
+  pub exactly : (s : ℕ) → In s slots ↔ ((t : List ℕ) × (st .held s ≡ some t) × Stands (st .signature) relation t q)
+  -- their number, and their listing in the first bytes of the buffer, no byte beyond
+  pub number : r .second ≡ length slots
+  pub bytes : out ≡ listing slots ++ drop (length (listing slots)) out₀
+  -- the slots that the formula of the relation gives, each once: as many as the first number says
+  pub candidates : List ℕ
+  pub distinct : NoDup candidates
+  pub formulas : (s : ℕ) → In s candidates ↔ (formula relation (trees (st .signature) (st .held)) (treeOf (st .signature) q) s ≡ true)
+  pub count : r .first ≡ length candidates
+
+pub demand-2 : (T S : Tables) (st : Store) (relation room : ℕ) (q out₀ out : List ℕ) (r : Reply) → Run T st → Called T out₀ (retrieve relation q room) S out r → r .refused ≡ 0
+    → Retrieval st relation q out₀ out r
+demand-2 T S st relation room q out₀ out r k d z =
+    let h = run-stands T st k in
+    let g = run-sound T st k in
+    let m = call-means T S st (retrieve relation q room) out₀ out r h d in
+    let w = retrieve-found st relation room q (sym (ap (λ (x : Reply). x .refused) (m .reply)) ∙ z) in
+    let e = m .reply ∙ ap replyOf (w .is) in
+    record {
+      slots = answers st relation q;
+      ascending = answers-ascend st g relation q;
+      exactly = answers-are st g relation q (w .checked);
+      number = ap (λ (x : Reply). x .second) e;
+      bytes = m .bytes ∙ ap (λ (a : Answer). sets out₀ 0 (written a)) (w .is) ∙ front-bytes (listing (answers st relation q)) out₀ (rw (room-of T S out₀ relation room q out r d) at (w .fits));
+      candidates = candidatesIn st relation q;
+      distinct = ascending-nodup (candidatesIn st relation q) (candidates-ascend st g relation q);
+      formulas = candidates-are st g relation q (w .checked);
+      count = ap (λ (x : Reply). x .first) e;
+    }
+
+-- DEMAND 3. '"No unifier" is answered exactly when there is none, of terms however large. Otherwise the record written is the most
+-- general unifier: it makes both terms the same, is idempotent, and every unifier factors through it.'
+pub demand-3-none : (T S : Tables) (st : Store) (s room : ℕ) (t q out₀ out : List ℕ) (r : Reply) → Run T st → st .held s ≡ some t → refusal (st .signature) q ≡ 0
+    → Called T out₀ (solve s q room) S out r → (r .refused ≡ 13) ↔ (Unifiable (st .signature) t q → ⊥)
+demand-3-none T S st s room t q out₀ out r k e c d =
+    let m = call-means T S st (solve s q room) out₀ out r (run-stands T st k) d in
+    let n = solve-none st (run-sound T st k) s t e q c room in
+    ((λ z. n .0 (refused-number (answered st (solve s q room)) 13 (λ y. clash y) (sym (ap (λ (x : Reply). x .refused) (m .reply)) ∙ z))),
+      (λ u. ap (λ (x : Reply). x .refused) (m .reply ∙ ap replyOf (n .1 u))))
+  where
+    clash : _≡_ {A = ℕ} 13 0 → ⊥
+    clash z = omega arith
+
+-- what stands in the buffer: n bytes of a record, which read back as fields are the unifier (`Reads`: the three properties, the
+-- variables ascending, each occurring in one of the terms, none with itself as value), and nothing beyond them is changed
+pub record Solution (sig t q out₀ out : List ℕ) (r : Reply) : Type 0 where
+  pub record-bytes : List ℕ
+  pub bytes : out ≡ record-bytes ++ drop (length record-bytes) out₀
+  pub length-told : r .second ≡ length record-bytes
+  pub is : IsRecord sig t q record-bytes
+  pub reads : Reads sig t q (readFields record-bytes)
+  pub fields : r .first ≡ length (readFields record-bytes)
+  -- no value has over 2,048 items
+  pub short : Short (is .by)
+
+pub demand-3 : (T S : Tables) (st : Store) (s room : ℕ) (t q out₀ out : List ℕ) (r : Reply) → Run T st → st .held s ≡ some t → refusal (st .signature) q ≡ 0
+    → Called T out₀ (solve s q room) S out r → r .refused ≡ 0 → Solution (st .signature) t q out₀ out r
+demand-3 T S st s room t q out₀ out r k e c d z =
+    let m = call-means T S st (solve s q room) out₀ out r (run-stands T st k) d in
+    let w = solve-found st (run-sound T st k) s room t q e c (sym (ap (λ (x : Reply). x .refused) (m .reply)) ∙ z) in
+    let v = solve-solved st (run-sound T st k) s t e q c room (w .fields) (w .bytes) (w .is) in
+    let p = m .reply ∙ ap replyOf (w .is) in
+    record {
+      record-bytes = w .bytes;
+      bytes = m .bytes ∙ ap (λ (a : Answer). sets out₀ 0 (written a)) (w .is) ∙ front-bytes (w .bytes) out₀ (rw (room-solve T S out₀ s room q out r d) at (v .fits));
+      length-told = ap (λ (x : Reply). x .second) p;
+      is = v .is;
+      reads = v .reads;
+      fields = ap (λ (x : Reply). x .first) p ∙ v .count;
+      short = v .short;
+    }

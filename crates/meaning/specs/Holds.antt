@@ -1,14 +1,14 @@
 -- The lent tables stand for a store: docs/TABLES.md, field by field.
-use Prim.Native.Nat.{ℕ, _≤_, _<_}
+use Prim.Native.Nat.{ℕ}
 use mathlib.Core.Path.{_≡_}
-use mathlib.Core.Bool.{Bool, true}
+use mathlib.Core.Bool.{true}
 use mathlib.Core.Option.{Option, some, none}
 use mathlib.Core.List.{List}
 use Rattle.keys.specs.Keys.{Tm}
-use Rattle.terms.specs.Terms.{sigRefusal, refusal}
 use Rattle.layout.specs.Layout.{signatureOf, termOf, isUsed}
 use Rattle.definitions.specs.Trees.{treeOf}
 use Rattle.definitions.specs.Store.{Store, inUse}
+use Rattle.definitions.specs.Sound.{Sound}
 use Rattle.walks.specs.Means.{GoodSt}
 use Rattle.layout.specs.Tables.{Tables, ample}
 use Rattle.store.specs.Tables.{indexOf}
@@ -20,12 +20,6 @@ treeIn sig (some t) = some (treeOf sig t)
 
 abbrev pub treesOf : Store → ℕ → Option Tm
 treesOf st s = treeIn (st .signature) (st .held s)
-
--- a store that runs of calls lead to: slots 0 to 511, checked terms
-pub record Sound (st : Store) : Type 0 where
-  pub signed : sigRefusal (st .signature) ≡ 0
-  pub bounded : (s : ℕ) → 512 ≤ s → st .held s ≡ none
-  pub checked : (s : ℕ) (t : List ℕ) → st .held s ≡ some t → refusal (st .signature) t ≡ 0
 
 pub record Holds (T : Tables) (st : Store) : Type 0 where
   pub sound : Sound st

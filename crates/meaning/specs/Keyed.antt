@@ -1,20 +1,20 @@
 -- The key question: the walk along a key's bytes leads to the key's number, and the set of that number has the slots of the store.
-use Prim.Native.Nat.{ℕ, zero, suc, _+_, _-_, _*_, _/_, _%_, _^_, _≤_, _<_, min}
-use mathlib.Core.Path.{_≡_, refl, sym, ap, _∙_, subst}
+use Prim.Native.Nat.{ℕ, zero, suc, _+_, _-_, _*_, _/_, _%_, _≤_, _<_, min}
+use mathlib.Core.Path.{_≡_, refl, sym, _∙_}
 use mathlib.Core.Logic.{_⊎_, inl, inr, _↔_, ⊎-elim}
-use mathlib.Core.List.{List, [], _∷_, _++_}
+use mathlib.Core.List.{List, [], _∷_}
 use mathlib.Core.Bool.{Bool, true, false}
 use mathlib.Core.Option.{Option, some, none}
 use native.Mathlib.Omega.{arith}
-use native.Mathlib.Decide.{ℕ-discrete, decLt}
-use borrow.Author.Tests.{eq-eqb, ne-eqb, eqb-true, eqb-false, lt-ltb, le-ltb, ltb-true, leb-true}
+use native.Mathlib.Decide.{decLt}
+use borrow.Author.Tests.{ne-eqb, eqb-true, eqb-false, lt-ltb, le-ltb, ltb-true, leb-true}
 use lib.Dec.{eqb, ltb, leb}
 use lib.Bits.{bitAnd}
 use lib.Seq.{sets}
-use lib.ListN.{length, getD, replicate, getD-replicate}
+use lib.ListN.{length, getD, getD-replicate}
 use Rattle.laws.specs.Choice.{pick}
 use Rattle.laws.specs.Digits.{bit, bit-and, bit-zero, bit-suc}
-use Rattle.keys.specs.Keys.{Tm, Place, root, step, Key, key, HasKey}
+use Rattle.keys.specs.Keys.{Place, root, step, Key, key}
 use Rattle.keys.specs.Bytes.{stepGood, endGood, stepsGood, isKey}
 use Rattle.terms.specs.Terms.{Signed}
 use Rattle.terms.proofs.Laws.{signed}
@@ -25,15 +25,14 @@ use Rattle.definitions.specs.FormulasTable.{has-key}
 use Rattle.definitions.specs.KeyBytes.{keyOf, keyAfter}
 use Rattle.chains.specs.Chains.{find, find-sound}
 use Rattle.paths.specs.Rep.{lab, lab-inj, At, top, kid, Den, Rep, find-den, find-none}
-use Rattle.paths.specs.Insert.{DenK}
 use Rattle.paths.specs.Locate.{DenM, find-le}
 use Rattle.paths.specs.Store.{Stored, KeyIn}
-use Rattle.layout.specs.Layout.{signatureOf, usedOf, isUsed}
-use Rattle.slots.specs.Slots.{has, words8, members, listed}
+use Rattle.layout.specs.Layout.{usedOf, isUsed}
+use Rattle.slots.specs.Slots.{has, members, listed}
 use Rattle.slots.proofs.Laws.{getD-words8}
 use Rattle.bank.specs.Bank.{Sets, four, word, mem, met}
 use Rattle.definitions.specs.Store.{Store, inUse, holding, keyed, Answer, refused, opened, slot, slots, found, solved, withKey, fits, answered, written}
-use Rattle.layout.specs.Tables.{Tables, ample}
+use Rattle.layout.specs.Tables.{Tables}
 use Rattle.store.specs.Tables.{endNumber, numberFrom, keyNumber, slotsWith}
 use Rattle.store.specs.Calls.{Listing, listing, asking}
 use Rattle.meaning.specs.Holds.{treeIn, treesOf, Holds}

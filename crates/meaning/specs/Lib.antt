@@ -10,4 +10,6 @@ pub mod Runs
 pub mod Means
 pub mod Quiet
 pub mod Opening
+pub mod Told
 pub mod Demands
+pub mod Rejected

@@ -1,10 +1,9 @@
 -- Every call on tables that stand for a store does what the call on the store does.
-use Prim.Native.Nat.{ℕ, _*_, _≤_}
+use Prim.Native.Nat.{ℕ, _*_}
 use mathlib.Core.Path.{_≡_, refl, sym, ap, _∙_}
-use mathlib.Core.Logic.{_≢_}
 use mathlib.Core.Bool.{Bool, true, false}
 use mathlib.Core.Option.{Option, some, none}
-use mathlib.Core.List.{List, [], _∷_}
+use mathlib.Core.List.{List, []}
 use lib.Dec.{ltb, eqb}
 use lib.ListN.{length}
 use lib.Seq.{sets}
@@ -25,10 +24,10 @@ use Rattle.retrieve.specs.declared.Solved.{Solved}
 use Rattle.retrieve.specs.Retrieving.{Found, foundOf}
 use Rattle.definitions.specs.Records.{recordOf, countOf}
 use Rattle.definitions.specs.Decisions.{bindings?}
-use Rattle.definitions.specs.Store.{Store, Call, Answer, answered, after, written, inUse, firstFree, keyCount, put, keyed, answers, candidates, recorded, solving, fits, longFrom}
+use Rattle.definitions.specs.Store.{Store, Call, Answer, answered, after, written, inUse, firstFree, keyCount, put, keyed, answers, candidates, recorded, solving, longFrom}
 use Rattle.definitions.specs.Store as Abstract
 use Rattle.meaning.specs.Keyed.{refusalIn, countIn, shown, asking-means}
-use Rattle.meaning.specs.Confirmed.{candidatesIn, foundIn, retrieving-means, Tells, fieldsOf, bytesOf, solving-means}
+use Rattle.meaning.specs.Confirmed.{candidatesIn, foundIn, retrieving-means, Tells, solving-means}
 use Rattle.meaning.specs.Changing.{Stand, stand-holds, Does, opening-does, inserting-does, deleting-does}
 use Rattle.meaning.specs.Runs.{Reply, told, openReply, insertReply, deleteReply, keyReply, retrieveReply, solveReply, replyOf, Called, opens, inserts, deletes, asks, retrieves, solves}
 

@@ -8,10 +8,8 @@ use native.Mathlib.Decide.{ℕ-discrete}
 use native.Mathlib.Omega.{arith}
 use lib.Dec.{ltb, eqb}
 use lib.ListN.{length}
-use lib.Seq.{sets}
 use Rattle.laws.specs.Choice.{pick}
-use Rattle.slots.specs.Slots.{members, listed}
-use Rattle.terms.specs.Refusals.{numberOf}
+use Rattle.slots.specs.Slots.{members}
 use Rattle.terms.specs.Terms.{sigRefusal, refusal}
 use Rattle.keys.specs.Bytes.{isKey}
 use Rattle.theory.specs.Items.{items, shift}
@@ -28,11 +26,11 @@ use Rattle.unify.specs.declared.Recorded.{Recorded}
 use Rattle.unify.specs.Whole.{Promise}
 use Rattle.retrieve.specs.declared.Retrieved.{Retrieved}
 use Rattle.retrieve.specs.declared.Solved.{Solved}
-use Rattle.retrieve.specs.Retrieving.{Found, foundOf, retrieving, Retrieving, candidatesOf}
+use Rattle.retrieve.specs.Retrieving.{Found, foundOf, retrieving, Retrieving}
 use Rattle.retrieve.specs.Retrieving as Retrieving
 use Rattle.retrieve.specs.Solving.{solvedNumber, unsolvable, solvedBy, Solving}
 use Rattle.definitions.specs.Store.{Call}
-use Rattle.meaning.specs.Runs.{Reply, told, openReply, insertReply, deleteReply, keyReply, retrieveReply, solveReply, Called, opens, inserts, deletes, asks, retrieves, solves}
+use Rattle.meaning.specs.Runs.{Reply, openReply, insertReply, deleteReply, keyReply, retrieveReply, solveReply, Called, opens, inserts, deletes, asks, retrieves, solves}
 
 -- refused outcomes leave the tables
 abbrev Leaves : Tables → Outcome → Type 0

@@ -1,15 +1,15 @@
 -- Refusal 12: the table's test for free keys is the store's test of its number of distinct keys.
-use Prim.Native.Nat.{ℕ, zero, suc, _+_, _-_, _*_, _≤_, _<_}
+use Prim.Native.Nat.{ℕ, suc, _+_, _-_, _*_, _≤_, _<_}
 use mathlib.Core.Path.{_≡_, refl, sym, ap, _∙_, subst}
-use mathlib.Core.Logic.{_⊎_, inl, inr, _↔_, ⊎-elim}
-use mathlib.Core.List.{List, [], _∷_, _++_, map}
+use mathlib.Core.Logic.{inl, inr, _↔_}
+use mathlib.Core.List.{List, [], map}
 use mathlib.Core.Bool.{Bool, true, false}
 use mathlib.Core.Option.{Option, some, none}
 use native.Mathlib.Omega.{arith}
 use native.Mathlib.Decide.{ℕ-discrete, decLt}
 use borrow.Author.Tests.{eq-eqb, ne-eqb, le-ltb, lt-ltb}
 use lib.Dec.{eqb, ltb}
-use lib.ListN.{length, getD, take, length-append, length-map, length-replicate}
+use lib.ListN.{length, take, length-append, length-map}
 use lib.Seq.{take-all}
 use Rattle.laws.specs.Choice.{pick}
 use Rattle.keys.specs.Keys.{Tm, Args, node, nil, cons, Place, Key, key, endOf, size, sizes}
@@ -30,7 +30,8 @@ use Rattle.paths.specs.Spelt.{spelt}
 use Rattle.walks.specs.Means.{GoodSt, fill-nums}
 use Rattle.layout.specs.Tables.{Tables}
 use Rattle.store.specs.Tables.{indexOf, upsOf, endsOf, noNumbers, located, roomFor}
-use Rattle.meaning.specs.Holds.{treeIn, treesOf, Sound}
+use Rattle.meaning.specs.Holds.{treeIn, treesOf}
+use Rattle.definitions.specs.Sound.{Sound}
 use Rattle.meaning.specs.Counting.{key-count}
 
 mutual
