@@ -8,8 +8,6 @@ use unify::Recorded;
 ghost use Prim.Native.Nat.{_≤_, _<_};
 ghost use mathlib.Core.Path.{_≡_};
 ghost use lib.ListN.{length};
-ghost use Rattle.laws.specs.Choice.{pick};
-ghost use Rattle.slots.specs.Slots.{inserted};
 ghost use Rattle.terms.specs.Terms.{Signed, refusal};
 ghost use Rattle.theory.specs.Relations.{Decided};
 ghost use Rattle.layout.specs.Tables.{held};
@@ -50,17 +48,6 @@ fn stands(relation: usize, sig: &[u8], t: &[u8], q: &[u8]) -> bool
     unify::unifiable(sig, t, q)
 }
 
-// The set with the slot, or as it is.
-fn with_slot(set: SlotSet, slot: usize, put: bool) -> SlotSet
-    requires { ⌜ slot < 512 ⌝ }
-    ensures { λ r. ⌜ r .words ≡ pick put (inserted (set .words) slot) (set .words) ⌝ }
-{
-    if put {
-        return set.insert(slot);
-    }
-    set
-}
-
 // The candidates whose term stands in the relation to the question.
 fn confirmed(bytes: &[u8], relation: usize, sig: &[u8], q: &[u8], candidates: SlotSet) -> SlotSet
     requires { ⌜ (33538 ≤ length (now bytes)) × Signed (now sig) × (refusal (now sig) (now q) ≡ 0) ⌝ }
@@ -69,8 +56,9 @@ fn confirmed(bytes: &[u8], relation: usize, sig: &[u8], q: &[u8], candidates: Sl
     let mut answers = SlotSet::empty();
     let mut slot = candidates.next(0);
     while slot < 512 {
-        let yes = stands(relation, sig, layout::term(bytes, slot), q);
-        answers = with_slot(answers, slot, yes);
+        if stands(relation, sig, layout::term(bytes, slot), q) {
+            answers = answers.insert(slot);
+        }
         slot = candidates.next(slot + 1);
     }
     answers

@@ -2,7 +2,10 @@ use Prim.Native.Nat.{ℕ, _≤_, _-_, _+_, _<_}
 use mathlib.Core.Path.{_≡_, refl, sym, ap, _∙_}
 use mathlib.Core.List.{List}
 use native.Mathlib.Omega.{arith}
-use Rattle.retrieve.proofs.Laws.{Confirming, confirming-start, confirming-turn, confirming-end}
+use mathlib.Core.Logic.{⊎-elim}
+use Rattle.laws.specs.Choice.{pick}
+use Rattle.slots.specs.Slots.{inserted}
+use Rattle.retrieve.proofs.Laws.{pick-yes, pick-no, Confirming, confirming-start, confirming-turn, confirming-end}
 use Rattle.retrieve.proofs.confirmed.Statement.{statement}
 use Rattle.retrieve.proofs.confirmed.Tie as tie
 
@@ -27,8 +30,8 @@ term-requires c κs = ((c .before .before .before .before .before .before .befor
 stands-requires : tie.Need-stands-requires Inv-loop μ-loop
 stands-requires c κs = ((c .before .before .before .before .before .before .before .before) .pre .1, (c .before .before .before .before .before .before .before .before) .pre .2)
 
-with-slot-requires : tie.Need-with-slot-requires Inv-loop μ-loop
-with-slot-requires c κs = (c .before .before .loop-test) .taken
+insert-requires : tie.Need-insert-requires Inv-loop μ-loop
+insert-requires c κs = (c .before .before .before .loop-test) .taken
 
 add-next : tie.Need-add-next Inv-loop μ-loop
 add-next c = omega (arith, (c .before .before .before .loop-test) .taken)
@@ -42,7 +45,9 @@ loop-less c = omega (arith, (c .next2) .ensures .above, (c .before .before .befo
 loop-again : tie.Need-loop-again Inv-loop μ-loop
 loop-again c = let a = (c .before .before .before .before .before .before .before .before .before .before .before) .args in let l = (c .before .before .before .before .before .loop) in
     let d = (c .before .before .stands) .ensures in
-    confirming-turn (a .bytes .now) (a .relation) (a .sig .now) (a .q .now) (a .candidates .words) (l .answers .words) (l .slot) (l .inv) ((c .before .before .before .before .loop-test) .taken) ((c .before .before .stands) .result) _ _ (rw ((c .before .before .before .term) .ensures .0) at d) ((c .before .with-slot) .ensures) ((c .next2) .ensures)
+    let put : ((c .before .if1) .answers) .words ≡ pick ((c .before .before .stands) .result) (inserted (l .answers .words) (l .slot)) (l .answers .words) =
+    ⊎-elim (λ z. pick-yes _ _ _ _ (z .0 .taken) (rw (z .2) (z .1 .ensures))) (λ z. pick-no _ _ _ _ (z .0 .left) (rw (z .1))) ((c .before .if1) .came) in
+    confirming-turn (a .bytes .now) (a .relation) (a .sig .now) (a .q .now) (a .candidates .words) (l .answers .words) (l .slot) (l .inv) ((c .before .before .before .before .loop-test) .taken) ((c .before .before .stands) .result) _ _ (rw ((c .before .before .before .term) .ensures .0) at d) put ((c .next2) .ensures)
 
 returns : tie.Need-returns Inv-loop μ-loop
 returns c = let a = (c .before .before .before .before .before .before .before) .args in let l = (c .before .loop) in
@@ -59,7 +64,7 @@ confirmed-spec =
     loop-holds
     term-requires
     stands-requires
-    with-slot-requires
+    insert-requires
     add-next
     next-requires-2
     loop-less
