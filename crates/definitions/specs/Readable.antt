@@ -244,9 +244,10 @@ module _ (st : Store) (h : Sound st) where
   pub keyed-are : (k : List ℕ) (s : ℕ) → In s (keyed st k) ↔ ((t : List ℕ) × (st .held s ≡ some t) × HasKey (treeOf (st .signature) t) (keyOf k))
   unfolding keyed
   keyed-are k s =
-      let a = holding-slots (λ t. hasKey (treeOf (st .signature) t) (keyOf k)) s in
-      ((λ i. (let w = a .0 i in (w .0, w .1, has-key (treeOf (st .signature) (w .0)) (keyOf k) .0 (w .2)))),
-        (λ w. a .1 (w .0, w .1, has-key (treeOf (st .signature) (w .0)) (keyOf k) .1 (w .2))))
+      let a = holding-slots (λ t. hasKey (treeOf (st .signature) t) (keyOf k)) s in (
+        (λ i. (let w = a .0 i in (w .0, w .1, has-key (treeOf (st .signature) (w .0)) (keyOf k) .0 (w .2)))),
+        (λ w. a .1 (w .0, w .1, has-key (treeOf (st .signature) (w .0)) (keyOf k) .1 (w .2))),
+      )
 
   pub keyed-ascend : (k : List ℕ) → Ascending (keyed st k)
   unfolding keyed
@@ -341,9 +342,10 @@ module _ (st : Store) (h : Sound st) (s : ℕ) (t : List ℕ) (e : st .held s �
     where
       go : (o : Option (List Bind)) → Solution (arity (st .signature)) (items t) (shift 32 (items q)) o → (recorded o room ≡ refused 13) ↔ (Unifiable (st .signature) t q → ⊥)
       go none g = ((λ d u. g (u .by) (u .sub) (u .same)), (λ n. refl))
-      go (some B) g =
-          ((λ d. absurd (not-none (longFrom (full B) 64 0) (ltb room (length (recordOf (full B)))) (countOf (full B)) (recordOf (full B)) d)),
-            (λ n. absurd (n (record { by = full B; sub = g .1 .sub; same = g .1 .unifies }))))
+      go (some B) g = (
+        (λ d. absurd (not-none (longFrom (full B) 64 0) (ltb room (length (recordOf (full B)))) (countOf (full B)) (recordOf (full B)) d)),
+        (λ n. absurd (n (record { by = full B; sub = g .1 .sub; same = g .1 .unifies }))),
+      )
 
   -- and where a record is answered, it is the record, short enough, and reads back as the most general unifier
   pub solve-solved : (n : ℕ) (w : List ℕ) → answered st (solve s q room) ≡ solved n w → Solved (st .signature) t q room n w

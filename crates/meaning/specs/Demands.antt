@@ -88,7 +88,7 @@ demand-2 T S st relation room q out₀ out r k d z =
       ascending = answers-ascend st g relation q;
       exactly = answers-are st g relation q (w .checked);
       number = ap (λ (x : Reply). x .second) e;
-      bytes = m .bytes ∙ ap (λ (a : Answer). sets out₀ 0 (written a)) (w .is) ∙ front-bytes (listing (answers st relation q)) out₀ (rw (room-of T S out₀ relation room q out r d) at (w .fits));
+      bytes = m .bytes ∙ ap (λ (a : Answer). sets out₀ 0 (written a)) (w .is) ∙ front-bytes (listing (answers st relation q)) out₀ (let l = w .fits in omega (arith, l, room-of T S out₀ relation room q out r d));
       candidates = candidatesIn st relation q;
       distinct = ascending-nodup (candidatesIn st relation q) (candidates-ascend st g relation q);
       formulas = candidates-are st g relation q (w .checked);
@@ -101,9 +101,10 @@ pub demand-3-none : (T S : Tables) (st : Store) (s room : ℕ) (t q out₀ out :
     → Called T out₀ (solve s q room) S out r → (r .refused ≡ 13) ↔ (Unifiable (st .signature) t q → ⊥)
 demand-3-none T S st s room t q out₀ out r k e c d =
     let m = call-means T S st (solve s q room) out₀ out r (run-stands T st k) d in
-    let n = solve-none st (run-sound T st k) s t e q c room in
-    ((λ z. n .0 (refused-number (answered st (solve s q room)) 13 (λ y. clash y) (sym (ap (λ (x : Reply). x .refused) (m .reply)) ∙ z))),
-      (λ u. ap (λ (x : Reply). x .refused) (m .reply ∙ ap replyOf (n .1 u))))
+    let n = solve-none st (run-sound T st k) s t e q c room in (
+      (λ z. n .0 (refused-number (answered st (solve s q room)) 13 (λ y. clash y) (sym (ap (λ (x : Reply). x .refused) (m .reply)) ∙ z))),
+      (λ u. ap (λ (x : Reply). x .refused) (m .reply ∙ ap replyOf (n .1 u))),
+    )
   where
     clash : _≡_ {A = ℕ} 13 0 → ⊥
     clash z = omega arith
@@ -129,7 +130,7 @@ demand-3 T S st s room t q out₀ out r k e c d z =
     let p = m .reply ∙ ap replyOf (w .is) in
     record {
       record-bytes = w .bytes;
-      bytes = m .bytes ∙ ap (λ (a : Answer). sets out₀ 0 (written a)) (w .is) ∙ front-bytes (w .bytes) out₀ (rw (room-solve T S out₀ s room q out r d) at (v .fits));
+      bytes = m .bytes ∙ ap (λ (a : Answer). sets out₀ 0 (written a)) (w .is) ∙ front-bytes (w .bytes) out₀ (let l = v .fits in omega (arith, l, room-solve T S out₀ s room q out r d));
       length-told = ap (λ (x : Reply). x .second) p;
       is = v .is;
       reads = v .reads;
