@@ -29,7 +29,7 @@ use Rattle.definitions.specs.FormulasTable.{has-key, formulas-bytes}
 use Rattle.definitions.specs.KeyBytes.{keyOf}
 use Rattle.definitions.specs.Relations.{Stands}
 use Rattle.definitions.specs.Decisions.{answer, stands, stands-right, bindings?, bindings-right}
-use Rattle.definitions.specs.Records.{Unifier, Short, IsRecord, recordOf, countOf}
+use Rattle.definitions.specs.Records.{Unifier, Short, IsRecord, recordOf, countOf, one-unifier, one-record}
 use Rattle.definitions.specs.ReadBack.{readFields, Reads, read-back, read-count}
 use Rattle.definitions.specs.Spelt.{clash, taken, keys-stand}
 use Rattle.definitions.specs.Store.{Store, slotsFrom, slotsWith, holding, inUse, freeFrom, firstFree, key?, keysIn, keysFrom, keysHeld, isIn, distinct, keyCount, solve, Answer, refused, solved, keyed, candidates, answers, longFrom, recorded, solving, answered}
@@ -328,6 +328,21 @@ only-solved true b m n v w e = absurd (let z : _≡_ {A = ℕ} 0 1 = cc in omega
 only-solved false true m n v w e = absurd (let z : _≡_ {A = ℕ} 0 1 = cc in omega arith)
 only-solved false false m n v w e = (refl, refl, cc, cc)
 
+only-long : (a b : Bool) (n : ℕ) (w : List ℕ) → pick a (refused 14) (pick b (refused 15) (solved n w)) ≡ refused 14 → a ≡ true
+only-long true b n w e = refl
+only-long false true n w e = absurd (let z : _≡_ {A = ℕ} 15 14 = cc in omega arith)
+only-long false false n w e = absurd (let z : _≡_ {A = ℕ} 0 1 = cc in omega arith)
+
+short-same : (θ η : ℕ → List Item) → ((x : ℕ) → θ x ≡ η x) → Short θ → Short η
+short-same θ η h s y b = rw (← h y) (s y b)
+
+long-true : (θ : ℕ → List Item) → (Short θ → ⊥) → longFrom θ 64 0 ≡ true
+long-true θ n = go (longFrom θ 64 0) refl
+  where
+    go : (b : Bool) → longFrom θ 64 0 ≡ b → b ≡ true
+    go true e = refl
+    go false e = absurd (n (long-short θ .0 e))
+
 module _ (st : Store) (h : Sound st) (s : ℕ) (t : List ℕ) (e : st .held s ≡ some t) (q : List ℕ) (c : refusal (st .signature) q ≡ 0) (room : ℕ) where
   solve-is : answered st (solve s q room) ≡ recorded (bindings? (st .signature) t q) room
   unfolding answered
@@ -365,3 +380,52 @@ module _ (st : Store) (h : Sound st) (s : ℕ) (t : List ℕ) (e : st .held s �
             count = rw (← k .3, ← k .2) (read-count (st .signature) t q ft fq (full B) u);
             fits = rw (← k .3) (ltb-false room (length (recordOf (full B))) (k .1));
           }
+
+  -- '14, LONG: solve, and some value has over 2,048 items'
+  pub solve-long : (answered st (solve s q room) ≡ refused 14) ↔ ((θ : ℕ → List Item) × Unifier (st .signature) (items t) (shift 32 (items q)) θ × (Short θ → ⊥))
+  solve-long = rw solve-is (go (bindings? (st .signature) t q) found)
+    where
+      go : (o : Option (List Bind)) → Solution (arity (st .signature)) (items t) (shift 32 (items q)) o
+          → (recorded o room ≡ refused 14) ↔ ((θ : ℕ → List Item) × Unifier (st .signature) (items t) (shift 32 (items q)) θ × (Short θ → ⊥))
+      go none g = ((λ d. absurd (let z : _≡_ {A = ℕ} 13 14 = cc in omega arith)), (λ w. absurd (g (w .0) (w .1 .mgu .sub) (w .1 .mgu .unifies))))
+      go (some B) g = (from, into)
+        where
+          u : Unifier (st .signature) (items t) (shift 32 (items q)) (full B)
+          u = record { mgu = g .1; least = g .2 }
+
+          from : recorded (some B) room ≡ refused 14 → (θ : ℕ → List Item) × Unifier (st .signature) (items t) (shift 32 (items q)) θ × (Short θ → ⊥)
+          from d =
+              let l = only-long (longFrom (full B) 64 0) (ltb room (length (recordOf (full B)))) (countOf (full B)) (recordOf (full B)) d in
+              (full B, u, λ k. clash (sym (long-short (full B) .1 k) ∙ l))
+
+          into : (θ : ℕ → List Item) × Unifier (st .signature) (items t) (shift 32 (items q)) θ × (Short θ → ⊥) → recorded (some B) room ≡ refused 14
+          into w =
+              let x = one-unifier (st .signature) (items t) (shift 32 (items q)) (full B) (w .0) u (w .1) in
+              rw (long-true (full B) (λ k. w .2 (short-same (full B) (w .0) x k)))
+
+  -- '15, ROOM: the answer buffer is shorter than the answer'
+  pub solve-room : (w : List ℕ) (r : IsRecord (st .signature) t q w) → Short (r .by) → room < length w → answered st (solve s q room) ≡ refused 15
+  solve-room w r k l = solve-is ∙ go (bindings? (st .signature) t q) found
+    where
+      go : (o : Option (List Bind)) → Solution (arity (st .signature)) (items t) (shift 32 (items q)) o → recorded o room ≡ refused 15
+      go none g = absurd (g (r .by) (r .unifier .mgu .sub) (r .unifier .mgu .unifies))
+      go (some B) g =
+          let u : Unifier (st .signature) (items t) (shift 32 (items q)) (full B) = record { mgu = g .1; least = g .2 } in
+          let x = one-unifier (st .signature) (items t) (shift 32 (items q)) (r .by) (full B) (r .unifier) u in
+          let v : w ≡ recordOf (full B) = one-record (st .signature) t q w (recordOf (full B)) r (record { by = full B; unifier = u; is = refl }) in
+          let m : room < length (recordOf (full B)) = rw (← v) l in
+          rw (long-short (full B) .1 (short-same (r .by) (full B) x k), lt-ltb room (length (recordOf (full B))) m)
+
+  -- where there is a record, short enough, and room for it, that record is answered
+  pub solve-writes : (w : List ℕ) (r : IsRecord (st .signature) t q w) → Short (r .by) → length w ≤ room → answered st (solve s q room) ≡ solved (length (readFields w)) w
+  solve-writes w r k l = solve-is ∙ go (bindings? (st .signature) t q) found
+    where
+      go : (o : Option (List Bind)) → Solution (arity (st .signature)) (items t) (shift 32 (items q)) o → recorded o room ≡ solved (length (readFields w)) w
+      go none g = absurd (g (r .by) (r .unifier .mgu .sub) (r .unifier .mgu .unifies))
+      go (some B) g =
+          let u : Unifier (st .signature) (items t) (shift 32 (items q)) (full B) = record { mgu = g .1; least = g .2 } in
+          let x = one-unifier (st .signature) (items t) (shift 32 (items q)) (r .by) (full B) (r .unifier) u in
+          let v : w ≡ recordOf (full B) = one-record (st .signature) t q w (recordOf (full B)) r (record { by = full B; unifier = u; is = refl }) in
+          let m : length (recordOf (full B)) ≤ room = rw (← v) l in
+          let n = read-count (st .signature) t q (fine (st .signature) t (h .signed) (h .checked s t e)) (fine (st .signature) q (h .signed) c) (full B) u in
+          rw (long-short (full B) .1 (short-same (r .by) (full B) x k), le-ltb room (length (recordOf (full B))) m, n, v)
