@@ -1,5 +1,4 @@
 pub mod Means
-pub mod Numbers
 pub mod One
 pub mod Retrieving
 pub mod Solving
