@@ -30,7 +30,7 @@ use Rattle.layout.specs.Tables.{Tables, held, ample}
 use Rattle.candidates.specs.Has.{has-lt, none-has}
 use Rattle.retrieve.specs.declared.Retrieved.{Retrieved}
 use Rattle.retrieve.specs.declared.Solved.{Solved}
-use Rattle.retrieve.specs.Numbers.{number-some}
+use Rattle.terms.specs.Numbers.{number-some}
 use Rattle.retrieve.specs.Stands.{Stands, Answers}
 use Rattle.retrieve.specs.Retrieving.{candidatesOf, retrieving, Retrieving}
 use Rattle.retrieve.specs.Solving.{unsolvable, solvedBy, Solving}

@@ -1,6 +1,5 @@
 pub mod Listing
 pub mod Means
-pub mod Numbers
 pub mod One
 pub mod Retrieving
 pub mod Solving

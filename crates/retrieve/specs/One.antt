@@ -21,7 +21,7 @@ use Rattle.layout.specs.Layout.{signatureOf, termOf}
 use Rattle.layout.specs.Tables.{Tables, ample}
 use Rattle.retrieve.specs.declared.Retrieved.{Retrieved}
 use Rattle.retrieve.specs.declared.Solved.{Solved}
-use Rattle.retrieve.specs.Numbers.{number-some, number-one}
+use Rattle.terms.specs.Numbers.{number-some, number-one}
 use Rattle.retrieve.specs.Stands.{Answers}
 use Rattle.retrieve.specs.Retrieving.{Found, refusedBy, foundOf, candidatesOf, retrieving, Retrieving}
 use Rattle.retrieve.specs.Solving.{solvedNumber, unsolvable, solvedBy, Solving}

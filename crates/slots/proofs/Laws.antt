@@ -1,61 +1,19 @@
-use Prim.Native.Nat.{ℕ, zero, suc, _+_, _-_, _*_, _/_, _%_, _^_, _≤_, _<_, min, max}
+use Prim.Native.Nat.{ℕ, zero, suc, _+_, _-_, _*_, _/_, _%_, _^_, _≤_, _<_}
 use mathlib.Core.Path.{_≡_, refl, sym, ap, _∙_}
-use mathlib.Core.List.{List, [], _∷_, _++_}
-use mathlib.Core.Bool.{Bool, true, false}
-use lib.ListN.{length, getD, set, take, drop, length-set}
-use lib.Seq.{getD-set-same, getD-set-other}
-use lib.Dec.{ltb, leb, eqb}
-use lib.Bits.{bitAnd, bitOr, bitXor, and-shr, or-shr, and-step, or-step}
-use lib.Pow.{pow-lt, pow-add, pow-mono, shl-shr, pow-pos}
-use lib.Arith.{digits-mod}
-use lib.Count.{ones, trailingZeros}
-use native.Mathlib.Nat.{lt-of-lt-of-le, lt-of-le-of-lt, div-le-self, mod-lt, mod-eq-of-lt, div-eq-of-lt, one-mul, pow-suc}
-use native.Mathlib.Decide.{decLt, ℕ-discrete}
-use native.Mathlib.Nat.{mul-mod-left}
-use lib.Count.{ones-step}
-use native.Mathlib.Numerals.{one-add}
-use native.Mathlib.Nat.{div-one}
+use mathlib.Core.List.{List, [], _∷_}
+use lib.ListN.{length, getD}
+use lib.Pow.{pow-mono, pow-pos}
+use lib.Count.{trailingZeros}
+use native.Mathlib.Nat.{lt-of-lt-of-le, lt-of-le-of-lt, div-le-self, div-eq-of-lt, pow-suc}
+use native.Mathlib.Decide.{decLt}
 use lib.Pow.{shr-shr}
 use lib.Count.{under}
-use native.Mathlib.Numerals.{add-one}
 use mathlib.Core.List.{map}
-use lib.ListN.{length-map, drop-of-length-le}
-use lib.Seq.{drop-cons}
+use lib.ListN.{length-map}
 use native.Mathlib.Omega.{arith}
-use borrow.Author.Tests.{eq-eqb, ne-eqb}
-use Rattle.laws.specs.Digits.{bit, bit-and, bit-or, bit-pow-same, bit-pow-other, bit-suc, bit-zero}
-use Rattle.slots.specs.Slots.{has, inserted, removed, both, either, words8, Next}
-
--- what an insert does to each slot
-pub has-insert-same : (ws : List ℕ) (s : ℕ) → s < 64 * length ws → has (inserted ws s) s ≡ 1
-unfolding has inserted
-has-insert-same ws s h =
-    let k : s / 64 < length ws = omega arith in
-    rw (getD-set-same ws (s / 64) _ 0 k, bit-or, bit-pow-same) (omega arith)
-
-pub has-insert-other : (ws : List ℕ) (s x : ℕ) → (x ≡ s → ⊥) → s < 64 * length ws → has (inserted ws s) x ≡ has ws x
-unfolding has inserted
-has-insert-other ws s x n h = go (ℕ-discrete (x / 64) (s / 64))
-  where
-    k : s / 64 < length ws
-    k = omega arith
-
-    go : Dec (x / 64 ≡ s / 64) → has (inserted ws s) x ≡ has ws x
-    go (yes e) = rw (e, getD-set-same ws (s / 64) _ 0 k, bit-or, bit-pow-other (s % 64) (x % 64) (omega (arith, e))) (omega arith)
-    go (no d) = rw (getD-set-other ws (s / 64) (x / 64) _ 0 d)
-
--- an intersection, slot by slot
-pub getD-both : (us vs : List ℕ) (i : ℕ) → length us ≡ length vs → getD (both us vs) i 0 ≡ bitAnd (getD us i 0) (getD vs i 0)
-unfolding both
-getD-both [] [] i h = refl
-getD-both [] (v ∷ vs) i h = absurd (omega arith)
-getD-both (u ∷ us) [] i h = absurd (omega arith)
-getD-both (u ∷ us) (v ∷ vs) zero h = refl
-getD-both (u ∷ us) (v ∷ vs) (suc i) h = getD-both us vs i (omega arith)
-
-pub has-both : (us vs : List ℕ) (x : ℕ) → length us ≡ length vs → has (both us vs) x ≡ min (has us x) (has vs x)
-unfolding has
-has-both us vs x h = rw (getD-both us vs (x / 64) h, bit-and)
+use Rattle.laws.specs.Digits.{bit, bit-suc, bit-zero}
+use Rattle.slots.specs.Slots.{has, both, Next}
+pub use Rattle.slots.specs.Sets.{has-insert-same, has-insert-other, getD-both, has-both, getD-words8, has-either, bit-not}
 
 here-under : (k w d : ℕ) → (trailingZeros k (w / 2) < k → bit (w / 2) (trailingZeros k (w / 2)) ≡ 1) → w % 2 ≡ d
     → under d (trailingZeros k (w / 2)) < suc k → bit w (under d (trailingZeros k (w / 2))) ≡ 1
@@ -89,33 +47,6 @@ length-both (u ∷ us) (v ∷ vs) h = ap suc (length-both us vs (omega arith))
 -- what owning a set tells of its words
 pub words-8 : (ws : List ℕ) → length (map (λ (v : ℕ). v) ws) ≡ 8 → length ws ≡ 8
 words-8 ws h = sym (length-map ws (λ (v : ℕ). v)) ∙ h
-
-pub getD-words8 : (f : ℕ → ℕ) (i : ℕ) → i < 8 → getD (words8 f) i 0 ≡ f i
-unfolding words8
-getD-words8 f zero h = refl
-getD-words8 f (suc zero) h = refl
-getD-words8 f (suc (suc zero)) h = refl
-getD-words8 f (suc (suc (suc zero))) h = refl
-getD-words8 f (suc (suc (suc (suc zero)))) h = refl
-getD-words8 f (suc (suc (suc (suc (suc zero))))) h = refl
-getD-words8 f (suc (suc (suc (suc (suc (suc zero)))))) h = refl
-getD-words8 f (suc (suc (suc (suc (suc (suc (suc zero))))))) h = refl
-getD-words8 f (suc (suc (suc (suc (suc (suc (suc (suc i)))))))) h = absurd (omega arith)
-
-pub has-either : (us vs : List ℕ) (x : ℕ) → x < 512 → has (either us vs) x ≡ max (has us x) (has vs x)
-unfolding has either
-has-either us vs x h = rw (getD-words8 _ (x / 64) (omega arith), bit-or)
-
--- the complement of a word, digit by digit
-pub bit-not : (k w i : ℕ) → w < 2 ^ k → i < k → bit ((2 ^ k - 1) - w) i ≡ 1 - bit w i
-bit-not zero w i h g = absurd (omega arith)
-bit-not (suc k) w zero h g =
-    let e = pow-suc 2 k in
-    rw (bit-zero, bit-zero) (omega (arith, e))
-bit-not (suc k) w (suc i) h g =
-    let e = pow-suc 2 k in
-    let f : (2 ^ suc k - 1 - w) / 2 ≡ 2 ^ k - 1 - w / 2 = omega (arith, e) in
-    rw (bit-suc, bit-suc, f) (bit-not k (w / 2) i (omega (arith, e)) (omega arith))
 
 -- a word that is not 0 has a digit
 pub trailing-lt : (k w : ℕ) → w < 2 ^ k → (w ≡ 0 → ⊥) → trailingZeros k w < k

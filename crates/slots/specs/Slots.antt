@@ -1,11 +1,13 @@
 -- Document 01, 'Store' and 'Paths and keys': a set of slots as eight words, slot s in word s / 64 at weight 2^(s mod 64).
-use Prim.Native.Nat.{ℕ, zero, suc, _+_, _-_, _*_, _/_, _%_, _^_, _≤_, _<_}
-use mathlib.Core.Path.{_≡_, refl, sym, ap, _∙_}
-use mathlib.Core.List.{List, [], _∷_, _++_}
-use mathlib.Core.Bool.{Bool, true, false}
-use lib.ListN.{length, getD, set, take, drop}
-use lib.Dec.{ltb, leb, eqb}
+use Prim.Native.Nat.{ℕ, zero, suc, _-_, _/_, _%_, _^_, _≤_, _<_}
+use mathlib.Core.Path.{_≡_}
+use mathlib.Core.List.{List, [], _∷_}
+use mathlib.Core.Bool.{Bool}
+use lib.ListN.{getD, set}
+use lib.Dec.{eqb}
 use lib.Bits.{bitAnd, bitOr, bitXor}
+use native.Mathlib.Omega.{arith}
+use native.Mathlib.Decide.{decLt}
 use Rattle.laws.specs.Choice.{pick}
 use Rattle.laws.specs.Digits.{bit}
 
@@ -46,6 +48,21 @@ pub record Next (ws : List ℕ) (from r : ℕ) : Type 0 where
   pub most : r ≤ 512
   pub member : r < 512 → has ws r ≡ 1
   pub none : (x : ℕ) → from ≤ x → x < r → has ws x ≡ 0
+
+-- it leaves one number
+pub next-one : (ws : List ℕ) (from a b : ℕ) → Next ws from a → Next ws from b → a ≡ b
+next-one ws from a b h k = go (decLt a b) (decLt b a)
+  where
+    below : (r q : ℕ) → Next ws from r → Next ws from q → r < q → ⊥
+    below r q m n l =
+        let one = m .member (omega (arith, n .most)) in
+        let none = n .none r (m .above) l in
+        omega (arith, one, none)
+
+    go : Dec (a < b) → Dec (b < a) → a ≡ b
+    go (yes l) d = absurd (below a b h k l)
+    go (no n) (yes l) = absurd (below b a k h l)
+    go (no n) (no m) = omega arith
 
 -- the slots of the set among the k from `from` on, ascending
 unfoldable pub membersFrom : List ℕ → ℕ → ℕ → List ℕ

@@ -1,2 +1,5 @@
+pub mod Conditions
+pub mod Lowest
+pub mod Numbers
 pub mod Refusals
 pub mod Terms

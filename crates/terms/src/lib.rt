@@ -90,7 +90,7 @@ pub fn item(t: &[u8], at: usize) -> usize
 }
 
 // The bytes that the term at the start of `t` takes up, or one more than there are.
-pub fn walk(sig: &[u8], t: &[u8], levels: usize) -> usize
+fn walk(sig: &[u8], t: &[u8], levels: usize) -> usize
     requires { ⌜ length (now t) ≤ 2 * levels ⌝ }
     ensures { λ r. ⌜ r ≡ min (span (now (sig .entry)) (now (t .entry)) 1) (length (now (t .entry)) + 1) ⌝ }
 {

@@ -1,6 +1,9 @@
 -- Document 01, 'Term bytes': the variable that a written number stands for.
-use mathlib.Core.Path.{_≡_}
+use mathlib.Core.Path.{_≡_, sym, ap, _∙_}
+use native.Mathlib.Omega.{arith}
 use Prim.Native.Nat.{ℕ, _+_, _<_}
+use Rattle.variables.specs.declared.StoredVariable.{StoredVariable}
+use Rattle.variables.specs.declared.QuestionVariable.{QuestionVariable}
 use Rattle.variables.specs.declared.Side.{Side}
 use Rattle.variables.specs.declared.Side.the-variants.{Stored, Question}
 
@@ -8,3 +11,16 @@ use Rattle.variables.specs.declared.Side.the-variants.{Stored, Question}
 abbrev pub Stands : ℕ → Side → Type 0
 Stands w (Stored v) = (v .0 < 32) × (v .0 ≡ w)
 Stands w (Question v) = (v .0 < 32) × (32 + v .0 ≡ w)
+
+stored-one : (u v : StoredVariable) → u .0 ≡ v .0 → u ≡ v
+stored-one u v e = ap (λ z. record { 0 = z }) e
+
+question-one : (u v : QuestionVariable) → u .0 ≡ v .0 → u ≡ v
+question-one u v e = ap (λ z. record { 0 = z }) e
+
+-- a written number stands for one variable
+pub stands-one : (w : ℕ) (a b : Side) → Stands w a → Stands w b → a ≡ b
+stands-one w (Stored u) (Stored v) h k = ap (λ z. Stored z) (stored-one u v (h .1 ∙ sym (k .1)))
+stands-one w (Stored u) (Question v) h k = absurd (omega (arith, h .0, h .1, k .1))
+stands-one w (Question u) (Stored v) h k = absurd (omega (arith, k .0, k .1, h .1))
+stands-one w (Question u) (Question v) h k = ap (λ z. Question z) (question-one u v (omega (arith, h .1, k .1)))

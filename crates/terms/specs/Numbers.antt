@@ -2,9 +2,11 @@
 use Prim.Native.Nat.{ℕ, zero, suc}
 use mathlib.Core.Path.{_≡_, refl, sym, ap, _∙_}
 use native.Mathlib.Omega.{arith}
 use Rattle.terms.specs.declared.Refusal.{Refusal}
 use Rattle.terms.specs.declared.Refusal.the-variants.{Table, Signature, Relation, Slot, Size, Odd, Symbol, Shape, Key, Argument, Full, Keys, Nothing, Long, Room, Log}
-use Rattle.terms.specs.Refusals.{numberOf}
+use Rattle.terms.specs.declared.Checked.{Checked}
+use Rattle.terms.specs.declared.Checked.the-variants.{Good, Refused}
+use Rattle.terms.specs.Refusals.{numberOf, checkedNumber}
 
 pub number-some : (w : Refusal) → numberOf w ≡ 0 → ⊥
 number-some Table h = omega arith
@@ -68,3 +70,10 @@ number-one w v h = go (numberOf w) refl
     go : (n : ℕ) → numberOf w ≡ n → w ≡ v
     go zero e = absurd (number-some w e)
     go (suc n) e = sym (named-back w n e) ∙ named-back v n (sym h ∙ e)
+
+-- what a check answers is told by its number: two answers that check_signature, check or check_argument may give are one
+pub checked-one : (n : ℕ) (a b : Checked) → checkedNumber a ≡ n → checkedNumber b ≡ n → a ≡ b
+checked-one n Good Good e f = refl
+checked-one n Good (Refused v) e f = absurd (number-some v (f ∙ sym e))
+checked-one n (Refused w) Good e f = absurd (number-some w (e ∙ sym f))
+checked-one n (Refused w) (Refused v) e f = ap (λ z. Refused z) (number-one w v (e ∙ sym f))
