@@ -34,7 +34,7 @@ module _ (sig t : List ℕ) (i was : ℕ) where
   length-told h = rw (eq-eqb (argRefusal sig t i) 0 h)
 
 -- a refusal's number is never 0
-numbered : (why : Refusal) → numberOf why ≡ 0 → ⊥
+pub numbered : (why : Refusal) → numberOf why ≡ 0 → ⊥
 numbered Table e = absurd (omega arith)
 numbered Signature e = absurd (omega arith)
 numbered Relation e = absurd (omega arith)

@@ -1,2 +1,4 @@
 pub mod Arguments
 pub mod Pair
+pub mod Answered
+pub mod Calls

@@ -7,7 +7,9 @@ use store::Inserted;
 use store::Listed;
 use store::Opened;
 ghost use mathlib.Core.Path.{_≡_};
+ghost use Rattle.retrieve.specs.Solving.{solvedNumber};
 ghost use Rattle.export.specs.Pair.{pairedNumber, pairedAnswer};
+ghost use Rattle.export.specs.Answered.{openedNumber, insertedNumber, deletedNumber, listedNumber, retrievedNumber, slotAfter, countAfter, candidatesAfter, answersAfter, fieldsAfter, writtenAfter};
 
 // A refusal's number as C has it.
 pub fn code(number: u8) -> u32
@@ -32,14 +34,18 @@ pub fn paired(answer: Paired, told: &mut usize) -> u32
     }
 }
 
-pub fn opened(answer: Opened) -> u32 {
+pub fn opened(answer: Opened) -> u32
+    ensures { λ r. ⌜ r ≡ openedNumber answer ⌝ }
+{
     match answer {
         Opened::Open => 0,
         Opened::Refused(why) => code(why.number()),
     }
 }
 
-pub fn inserted(answer: Inserted, slot: &mut usize) -> u32 {
+pub fn inserted(answer: Inserted, slot: &mut usize) -> u32
+    ensures { λ r. ⌜ (r ≡ insertedNumber answer) × (now (slot .exit) ≡ slotAfter answer (now (slot .entry))) ⌝ }
+{
     match answer {
         Inserted::Slot(at) => {
             *slot = at;
@@ -49,14 +55,18 @@ pub fn inserted(answer: Inserted, slot: &mut usize) -> u32 {
     }
 }
 
-pub fn deleted(answer: Deleted) -> u32 {
+pub fn deleted(answer: Deleted) -> u32
+    ensures { λ r. ⌜ r ≡ deletedNumber answer ⌝ }
+{
     match answer {
         Deleted::Slot(_) => 0,
         Deleted::Refused(why) => code(why.number()),
     }
 }
 
-pub fn listed(answer: Listed, count: &mut usize) -> u32 {
+pub fn listed(answer: Listed, count: &mut usize) -> u32
+    ensures { λ r. ⌜ (r ≡ listedNumber answer) × (now (count .exit) ≡ countAfter answer (now (count .entry))) ⌝ }
+{
     match answer {
         Listed::Slots(n) => {
             *count = n;
@@ -66,7 +76,9 @@ pub fn listed(answer: Listed, count: &mut usize) -> u32 {
     }
 }
 
-pub fn retrieved(answer: Retrieved, candidates: &mut usize, answers: &mut usize) -> u32 {
+pub fn retrieved(answer: Retrieved, candidates: &mut usize, answers: &mut usize) -> u32
+    ensures { λ r. ⌜ (r ≡ retrievedNumber answer) × (now (candidates .exit) ≡ candidatesAfter answer (now (candidates .entry))) × (now (answers .exit) ≡ answersAfter answer (now (answers .entry))) ⌝ }
+{
     match answer {
         Retrieved::Listed(c, a) => {
             *candidates = c;
@@ -77,7 +89,9 @@ pub fn retrieved(answer: Retrieved, candidates: &mut usize, answers: &mut usize)
     }
 }
 
-pub fn solved(answer: Solved, fields: &mut usize, written: &mut usize) -> u32 {
+pub fn solved(answer: Solved, fields: &mut usize, written: &mut usize) -> u32
+    ensures { λ r. ⌜ (r ≡ solvedNumber answer) × (now (fields .exit) ≡ fieldsAfter answer (now (fields .entry))) × (now (written .exit) ≡ writtenAfter answer (now (written .entry))) ⌝ }
+{
     match answer {
         Solved::Record(n, bytes) => {
             *fields = n;

@@ -14,7 +14,9 @@ ghost use Rattle.terms.specs.Terms.{sigRefusal, refusal, argRefusal};
 ghost use Rattle.theory.specs.Relations.{Unifiable};
 ghost use Rattle.pairs.specs.Pairs.{pairRefusal};
 ghost use Rattle.export.specs.Arguments.{startAfter, lengthAfter};
+ghost use Rattle.layout.specs.Tables.{held};
 ghost use Rattle.export.specs.Pair.{Told};
+ghost use Rattle.export.specs.Calls.{Opens, Inserts, Deletes, Lists, Retrieves, Solves};
 
 // Refusal 2 or none.
 #[no_mangle]
@@ -81,7 +83,9 @@ pub extern "C" fn azunkefogo_open(
     sets2: &mut [u64],
     sets3: &mut [u64],
     sig: &[u8],
-) -> u32 {
+) -> u32
+    ensures { λ r. ⌜ Opens (held (now (bytes .entry)) (now (used .entry)) (now (label .entry)) (now (link .entry)) (now (sets0 .entry)) (now (sets1 .entry)) (now (sets2 .entry)) (now (sets3 .entry))) (held (now (bytes .exit)) (now (used .exit)) (now (label .exit)) (now (link .exit)) (now (sets0 .exit)) (now (sets1 .exit)) (now (sets2 .exit)) (now (sets3 .exit))) (now (sig .entry)) r ⌝ }
+{
     opened(store::open(bytes, used, label, link, sets0, sets1, sets2, sets3, sig))
 }
 
@@ -98,7 +102,9 @@ pub extern "C" fn azunkefogo_insert(
     sets3: &mut [u64],
     term: &[u8],
     slot: &mut usize,
-) -> u32 {
+) -> u32
+    ensures { λ r. ⌜ Inserts (held (now (bytes .entry)) (now (used .entry)) (now (label .entry)) (now (link .entry)) (now (sets0 .entry)) (now (sets1 .entry)) (now (sets2 .entry)) (now (sets3 .entry))) (held (now (bytes .exit)) (now (used .exit)) (now (label .exit)) (now (link .exit)) (now (sets0 .exit)) (now (sets1 .exit)) (now (sets2 .exit)) (now (sets3 .exit))) (now (term .entry)) (now (slot .entry)) (now (slot .exit)) r ⌝ }
+{
     inserted(
         store::insert(bytes, used, label, link, sets0, sets1, sets2, sets3, term),
         slot,
@@ -117,7 +123,9 @@ pub extern "C" fn azunkefogo_delete(
     sets2: &mut [u64],
     sets3: &mut [u64],
     slot: usize,
-) -> u32 {
+) -> u32
+    ensures { λ r. ⌜ Deletes (held (now (bytes .entry)) (now (used .entry)) (now (label .entry)) (now (link .entry)) (now (sets0 .entry)) (now (sets1 .entry)) (now (sets2 .entry)) (now (sets3 .entry))) (held (now (bytes .exit)) (now (used .exit)) (now (label .exit)) (now (link .exit)) (now (sets0 .exit)) (now (sets1 .exit)) (now (sets2 .exit)) (now (sets3 .exit))) slot r ⌝ }
+{
     deleted(store::delete(bytes, used, label, link, sets0, sets1, sets2, sets3, slot))
 }
 
@@ -135,7 +143,9 @@ pub extern "C" fn azunkefogo_with_key(
     key: &[u8],
     out: &mut [u8],
     count: &mut usize,
-) -> u32 {
+) -> u32
+    ensures { λ r. ⌜ Lists (held (now (bytes .entry)) (now (used .entry)) (now (label .entry)) (now (link .entry)) (now (sets0 .entry)) (now (sets1 .entry)) (now (sets2 .entry)) (now (sets3 .entry))) (now (key .entry)) (now (out .entry)) (now (out .exit)) (now (count .entry)) (now (count .exit)) r ⌝ }
+{
     listed(
         store::with_key(
             bytes,
@@ -169,7 +179,9 @@ pub extern "C" fn azunkefogo_retrieve(
     out: &mut [u8],
     candidates: &mut usize,
     answers: &mut usize,
-) -> u32 {
+) -> u32
+    ensures { λ r. ⌜ Retrieves (held (now (bytes .entry)) (now (used .entry)) (now (label .entry)) (now (link .entry)) (now (sets0 .entry)) (now (sets1 .entry)) (now (sets2 .entry)) (now (sets3 .entry))) relation (now (question .entry)) (now (out .entry)) (now (out .exit)) (now (candidates .entry)) (now (candidates .exit)) (now (answers .entry)) (now (answers .exit)) r ⌝ }
+{
     retrieved(
         retrieve::retrieve(
             bytes,
@@ -205,7 +217,9 @@ pub extern "C" fn azunkefogo_solve(
     out: &mut [u8],
     fields: &mut usize,
     written: &mut usize,
-) -> u32 {
+) -> u32
+    ensures { λ r. ⌜ Solves (held (now (bytes .entry)) (now (used .entry)) (now (label .entry)) (now (link .entry)) (now (sets0 .entry)) (now (sets1 .entry)) (now (sets2 .entry)) (now (sets3 .entry))) slot (now (question .entry)) (now (out .entry)) (now (out .exit)) (now (fields .entry)) (now (fields .exit)) (now (written .entry)) (now (written .exit)) r ⌝ }
+{
     solved(
         retrieve::solve(
             bytes,
