@@ -11,10 +11,10 @@ use native.Mathlib.Omega.{arith}
 use Rattle.terms.specs.Terms.{sigRefusal}
 use Rattle.layout.specs.Tables.{Tables, ample}
 use Rattle.definitions.specs.Store.{Store, Call, answered, after, empty, openWith}
-use Rattle.meaning.specs.Changing.{Stand}
+use Rattle.meaning.specs.Stand.{Stand, stand-ample}
 use Rattle.meaning.specs.Means.{call-means}
 use Rattle.meaning.specs.Quiet.{quiet, short-tables}
-use Rattle.meaning.specs.Opening.{open-number, open-run, stand-ample}
+use Rattle.meaning.specs.Opening.{open-number, open-run}
 use Rattle.meaning.specs.Runs.{Reply, replyOf, Called, Run, opened, called}
 
 -- the tables stand for the store that the run leads to
