@@ -1,24 +1,21 @@
 -- Opening, insert and delete: what the tables answer is what the store answers, and afterwards they stand for the store afterwards.
 use Prim.Native.Nat.{ℕ, zero, suc, _+_, _≤_, _<_}
-use mathlib.Core.Path.{_≡_, refl, sym, ap, _∙_, subst}
+use mathlib.Core.Path.{_≡_, refl, sym}
 use mathlib.Core.List.{List}
 use mathlib.Core.Bool.{Bool, true, false}
 use mathlib.Core.Option.{Option, some, none}
 use native.Mathlib.Omega.{arith}
-use native.Mathlib.Decide.{ℕ-discrete, decLt}
+use native.Mathlib.Decide.{decLt}
 use borrow.Author.Tests.{eq-eqb, ne-eqb, eqb-true, eqb-false, lt-ltb, le-ltb, ltb-true}
 use lib.Dec.{eqb, ltb}
 use lib.ListN.{length}
 use Rattle.laws.specs.Choice.{pick}
 use Rattle.terms.specs.Terms.{aritiesGood, sigRefusal, refusal}
-use Rattle.keys.specs.Keys.{Tm}
-use Rattle.definitions.specs.Trees.{treeOf}
 use Rattle.definitions.specs.Spelt.{clash}
-use Rattle.definitions.specs.Store.{Store, holding, inUse, freeFrom, firstFree, put, keyCount, Answer, refused, opened, slot, slots, found, solved, openWith, insert, delete, answered, empty, unless, after}
-use Rattle.layout.specs.Layout.{signatureOf, isUsed}
+use Rattle.definitions.specs.Store.{Store, holding, inUse, freeFrom, firstFree, put, keyCount, Answer, refused, opened, slot, openWith, insert, delete, answered, empty, unless, after}
 use Rattle.layout.specs.Tables.{Tables, ample}
 use Rattle.layout.proofs.Laws.{long}
-use Rattle.store.specs.Tables.{upsOf, endsOf, roomFor, openedWith, freeSlot, insertedAt, deletedAt}
+use Rattle.store.specs.Tables.{upsOf, endsOf, roomFor, openedWith, insertedAt, deletedAt}
 use Rattle.store.specs.Calls.{Outcome, done, refusedBy, opening, inserting, deleting}
 use Rattle.store.specs.Means.{open-holds}
 use Rattle.store.specs.Means as Slots

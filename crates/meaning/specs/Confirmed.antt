@@ -1,12 +1,12 @@
 -- The retrievals and the solver on tables that stand for a store answer what the store answers.
-use Prim.Native.Nat.{ℕ, zero, suc, _+_, _*_, _≤_, _<_}
-use mathlib.Core.Path.{_≡_, refl, sym, ap, _∙_, subst}
+use Prim.Native.Nat.{ℕ, _*_, _≤_, _<_}
+use mathlib.Core.Path.{_≡_, refl, sym, ap, _∙_}
 use mathlib.Core.Logic.{_↔_}
 use mathlib.Core.List.{List}
 use mathlib.Core.Bool.{Bool, true, false}
 use mathlib.Core.Option.{Option, some, none}
 use native.Mathlib.Omega.{arith}
-use borrow.Author.Tests.{eq-eqb, eqb-true, eqb-false, lt-ltb, le-ltb, ltb-true, ltb-false}
+use borrow.Author.Tests.{eq-eqb, eqb-true, eqb-false, ltb-false}
 use lib.Dec.{eqb, ltb}
 use lib.ListN.{length}
 use lib.Seq.{sets}
@@ -14,8 +14,6 @@ use Rattle.laws.specs.Choice.{pick}
 use Rattle.slots.specs.Slots.{has, members, listed}
 use Rattle.terms.specs.Terms.{refusal}
 use Rattle.theory.specs.Items.{items, shift}
-use Rattle.keys.specs.Keys.{Tm}
-use Rattle.definitions.specs.Trees.{treeOf}
 use Rattle.definitions.specs.Spelt.{clash}
 use Rattle.definitions.specs.Candidates.{isCandidate}
 use Rattle.definitions.specs.Relations.{Stands}
@@ -24,8 +22,8 @@ use Rattle.definitions.specs.Store.{Store, holding, inUse, candidates, answers,
 use Rattle.unify.specs.declared.Recorded.{Recorded}
 use Rattle.unify.specs.declared.Recorded.the-variants.{Written, Nothing, Long, Room}
 use Rattle.unify.specs.Whole.{Promise}
-use Rattle.layout.specs.Layout.{signatureOf, termOf, usedOf, isUsed}
-use Rattle.layout.specs.Tables.{Tables, ample}
+use Rattle.layout.specs.Layout.{signatureOf, termOf, usedOf}
+use Rattle.layout.specs.Tables.{Tables}
 use Rattle.retrieve.specs.declared.Retrieved.{Retrieved}
 use Rattle.retrieve.specs.declared.Solved.{Solved}
 use Rattle.retrieve.specs.declared.Solved.the-variants.{Record, Refused}

@@ -1,24 +1,22 @@
 -- The number of distinct keys of a store is the number that the key table counts by; refusal 12.
-use Prim.Native.Nat.{ℕ, zero, suc, _+_, _-_, _*_, _≤_, _<_}
-use mathlib.Core.Path.{_≡_, refl, sym, ap, _∙_, subst}
+use Prim.Native.Nat.{ℕ, zero, suc, _+_, _≤_, _<_}
+use mathlib.Core.Path.{_≡_, refl, sym, subst}
 use mathlib.Core.Logic.{_⊎_, inl, inr, _↔_, ⊎-elim}
-use mathlib.Core.List.{List, [], _∷_, _++_, append-nil, map}
+use mathlib.Core.List.{List, [], _∷_, _++_}
 use mathlib.Core.Bool.{Bool, true, false}
 use mathlib.Core.Option.{Option, some, none}
 use native.Mathlib.Omega.{arith}
 use native.Mathlib.Decide.{ℕ-discrete, decLt}
 use borrow.Author.Tests.{ne-eqb, lt-ltb, le-ltb}
 use lib.Dec.{ltb}
-use lib.ListN.{length, getD, take, length-map}
 use Rattle.laws.specs.Choice.{pick}
 use Rattle.laws.specs.Members.{In, NoDup, in-append, in-left, in-right}
-use Rattle.keys.specs.Keys.{Tm, Place, root, Key, key, HasKey}
-use Rattle.terms.specs.Terms.{Signed, refusal}
-use Rattle.definitions.specs.Trees.{treeOf, keysOf}
+use Rattle.keys.specs.Keys.{Place, Key, key}
+use Rattle.terms.specs.Terms.{refusal}
 use Rattle.definitions.specs.Spelt.{clash, keys-stand}
 use Rattle.definitions.specs.Decisions.{answer}
 use Rattle.definitions.specs.Store.{Store, key?, keysIn, keysFrom, keysHeld, isIn, distinct, keyCount, put}
-use Rattle.paths.specs.Insert.{RK, With}
+use Rattle.paths.specs.Insert.{RK}
 use Rattle.paths.specs.Store.{Stored, KeyIn}
 use Rattle.paths.specs.Count.{Distinct}
 use Rattle.layout.specs.Tables.{Tables}

@@ -18,10 +18,9 @@ use Rattle.definitions.specs.FormulasTable.{has-key}
 use Rattle.definitions.specs.KeyBytes.{keyOf}
 use Rattle.paths.specs.Insert.{RK}
 use Rattle.paths.specs.Store.{Stored, KeyIn}
-use Rattle.layout.specs.Layout.{signatureOf}
 use Rattle.slots.specs.Slots.{has, members, listed}
 use Rattle.definitions.specs.Store.{Store, holding, keyed, Answer, refused, opened, slot, slots, found, solved, withKey, fits, answered, written}
-use Rattle.layout.specs.Tables.{Tables, ample}
+use Rattle.layout.specs.Tables.{Tables}
 use Rattle.store.specs.Tables.{slotsWith}
 use Rattle.store.specs.Calls.{Listing, listing, asking}
 use Rattle.store.specs.Means.{treeIn}

@@ -1,16 +1,15 @@
 -- The listings of sets of slots are the listings of stores, and the smallest free slot of the words is that of the store.
 use Prim.Native.Nat.{ℕ, zero, suc, _+_, _-_, _*_, _/_, _%_, _^_, _≤_, _<_}
-use mathlib.Core.Path.{_≡_, refl, sym, ap, _∙_}
+use mathlib.Core.Path.{_≡_, refl}
 use mathlib.Core.Logic.{_↔_}
-use mathlib.Core.List.{List, [], _∷_, _++_}
+use mathlib.Core.List.{List, [], _∷_}
 use mathlib.Core.Bool.{Bool, true, false}
 use native.Mathlib.Omega.{arith}
-use borrow.Author.Tests.{eq-eqb, ne-eqb, eqb-true, eqb-false, lt-ltb}
-use lib.Dec.{eqb, ltb}
+use borrow.Author.Tests.{eq-eqb, eqb-true, lt-ltb}
+use lib.Dec.{eqb}
 use lib.ListN.{length, getD}
 use Rattle.laws.specs.Choice.{pick}
-use Rattle.laws.specs.Digits.{bit}
-use Rattle.slots.specs.Slots.{has, others, words8, members, membersFrom, listed}
+use Rattle.slots.specs.Slots.{has, others, members, membersFrom, listed}
 use Rattle.slots.proofs.Laws.{getD-words8, bit-not}
 use Rattle.layout.specs.Layout.{usedOf, isUsed}
 use Rattle.definitions.specs.Spelt.{clash}

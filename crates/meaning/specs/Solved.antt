@@ -2,21 +2,21 @@
 use Prim.Native.Nat.{ℕ, zero, suc, _+_, _≤_, _<_}
 use mathlib.Core.Path.{_≡_, refl, sym, ap, _∙_}
 use mathlib.Core.Logic.{_↔_}
-use mathlib.Core.List.{List, [], _∷_, _++_}
+use mathlib.Core.List.{List}
 use mathlib.Core.Bool.{Bool, true, false}
 use mathlib.Core.Option.{Option, some, none}
 use native.Mathlib.Omega.{arith}
 use native.Mathlib.Decide.{ℕ-discrete}
 use borrow.Author.Tests.{lt-ltb, le-ltb, ltb-true, ltb-false}
 use lib.Dec.{ltb}
-use lib.ListN.{length, drop}
+use lib.ListN.{length}
 use lib.Seq.{sets, sets-eq}
 use Rattle.laws.specs.Choice.{pick}
 use Rattle.terms.specs.Terms.{sigRefusal, refusal}
 use Rattle.theory.specs.Flat.{Item}
 use Rattle.theory.specs.Unify.{Bind, full}
 use Rattle.theory.specs.Items.{arity, items, shift}
-use Rattle.theory.specs.Relations.{Decided, decided-one, Unifies}
+use Rattle.theory.specs.Relations.{Decided, decided-one}
 use Rattle.theory.specs.Checked.{fine}
 use Rattle.theory.specs.Solver.{Solution}
 use Rattle.definitions.specs.Spelt.{clash}
@@ -26,7 +26,7 @@ use Rattle.definitions.specs.Records.{Unifier, recordOf, countOf, Short, one-un
 use Rattle.definitions.specs.Records as Records
 use Rattle.definitions.specs.Store.{Answer, refused, solved, longFrom, recorded, written}
 use Rattle.unify.specs.Record.{front}
-use Rattle.unify.specs.Whole.{Promise, Writes, TooLong, NoRoom}
+use Rattle.unify.specs.Whole.{Promise}
 use Rattle.unify.specs.declared.Recorded.{Recorded}
 use Rattle.unify.specs.declared.Recorded.the-variants.{Written, Nothing, Long, Room}
 

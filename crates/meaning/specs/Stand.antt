@@ -1,7 +1,7 @@
 -- The lent tables stand for a store: docs/TABLES.md; field by field it is said in crate store (Means).
-use Prim.Native.Nat.{ℕ, _≤_, _<_}
+use Prim.Native.Nat.{ℕ, _<_}
 use mathlib.Core.Path.{_≡_, refl, _∙_}
-use mathlib.Core.Bool.{Bool, true, false}
+use mathlib.Core.Bool.{true, false}
 use mathlib.Core.Option.{Option, some, none}
 use mathlib.Core.List.{List}
 use native.Mathlib.Omega.{arith}
