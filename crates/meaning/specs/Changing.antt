@@ -6,7 +6,7 @@ use mathlib.Core.Bool.{Bool, true, false}
 use mathlib.Core.Option.{Option, some, none}
 use native.Mathlib.Omega.{arith}
 use native.Mathlib.Decide.{decLt}
-use borrow.Author.Tests.{eq-eqb, ne-eqb, eqb-true, eqb-false, lt-ltb, le-ltb, ltb-true}
+use borrow.Author.Tests.{eq-eqb, ne-eqb, eqb-true, eqb-false, lt-ltb, le-ltb}
 use lib.Dec.{eqb, ltb}
 use lib.ListN.{length}
 use Rattle.laws.specs.Choice.{pick}
@@ -20,7 +20,7 @@ use Rattle.store.specs.Calls.{Outcome, done, refusedBy, opening, inserting, del
 use Rattle.store.specs.Means.{open-holds}
 use Rattle.store.specs.Means as Slots
 use Rattle.store.specs.Changes.{insert-holds, delete-holds}
-use Rattle.meaning.specs.Stand.{Stand, stand-ample, stand-slots}
+use Rattle.meaning.specs.Stand.{Stand, stand-ample, stand-slots, in-use}
 use Rattle.meaning.specs.Lists.{free-first}
 use Rattle.meaning.specs.Counting.{room-test}
 use Rattle.meaning.specs.Keyed.{refusalIn, countIn}
@@ -66,18 +66,6 @@ opening-first T sig l s = rw (l, eq-eqb (sigRefusal sig) 0 s)
 put-held : (st : Store) (s : ℕ) (o : Option (List ℕ)) (T : Tables) → sigRefusal (st .signature) ≡ 0 → Slots.Holds T (st .signature) (Slots.changed (st .held) s o) → Stand T (put st s o)
 unfolding put Slots.changed
 put-held st s o T g h = record { signed = g; holds = h }
-
-in-use : (st : Store) (s : ℕ) → inUse st s ≡ true → (s < 512) × ((t : List ℕ) × (st .held s ≡ some t))
-unfolding inUse
-in-use st s h = go (ltb s 512) refl h
-  where
-    full : (o : Option (List ℕ)) → holding (λ t. true) o ≡ true → (t : List ℕ) × (o ≡ some t)
-    full none h = clash h
-    full (some t) h = (t, refl)
-
-    go : (b : Bool) → ltb s 512 ≡ b → pick b (holding (λ t. true) (st .held s)) false ≡ true → (s < 512) × ((t : List ℕ) × (st .held s ≡ some t))
-    go true e h = (ltb-true s 512 e, full (st .held s) h)
-    go false e h = clash h
 
 pub deleting-does : (T : Tables) (st : Store) (s : ℕ) → Stand T st → Does (deleting T s) (answered st (delete s)) (after st (delete s))
 unfolding deleting after answered

@@ -32,7 +32,7 @@ use Rattle.retrieve.specs.Means.{Indexed, candidates-exact, answers-exact}
 use Rattle.retrieve.specs.Retrieving.{Found, foundOf, refusedBy, candidatesOf, retrieving, Retrieving}
 use Rattle.retrieve.specs.Solving.{solvedNumber, unsolvable, solvedBy, Solving}
 use Rattle.store.specs.Means.{filled, treeIn}
-use Rattle.meaning.specs.Stand.{Stand, treesOf, stand-ample, stand-slots}
+use Rattle.meaning.specs.Stand.{Stand, treesOf, stand-ample, stand-slots, in-use}
 use Rattle.meaning.specs.Lists.{members-slots, listing-listed}
 use Rattle.meaning.specs.Keyed.{refusalIn, countIn}
 use Rattle.meaning.specs.Solved.{stands-iff, Solves, recordAnswer, recordLength, solved-means}
@@ -114,9 +114,6 @@ module _ (T : Tables) (st : Store) (h : Stand T st) where
   unfolding retrieving answered
   retrieving-means r q out₀ out x w = w .is ∙ rw (stand-ample T st h, h .holds .signature) (go (ltb 4 r) refl (eqb (refusal (st .signature) q) 0) refl)
     where
-      ws : List ℕ
-      ws = w .answers
-
       last : List ℕ → List ℕ → Found
       last cs ms = pick (ltb (length out₀) (2 * length ms)) (refusedBy 15 out₀) (record { refused = 0; candidates = length cs; answers = length ms; out = sets out₀ 0 (listed ms) })
 
@@ -134,16 +131,6 @@ module _ (T : Tables) (st : Store) (h : Stand T st) where
           let f = eqb-true (refusal (st .signature) q) 0 d in
           let a = answers-are r q f (w .answers) (ltb-false 4 r e) (w .exact (stand-ample T st h) (ltb-false 4 r e) (rw (h .holds .signature) f)) in
           rw (candidates-are r q f, a) (fit (ltb (length out₀) (2 * length (answers st r q))) (candidates st r q) (answers st r q))
-
--- a slot in use, and what it holds
-pub held-in-use : (st : Store) (s : ℕ) → inUse st s ≡ true → (t : List ℕ) × (st .held s ≡ some t)
-unfolding inUse
-held-in-use st s h = go (ltb s 512) h (st .held s) refl
-  where
-    go : (b : Bool) → pick b (holding (λ t. true) (st .held s)) false ≡ true → (o : Option (List ℕ)) → st .held s ≡ o → (t : List ℕ) × (o ≡ some t)
-    go false z o e = clash z
-    go true z none e = clash (rw e at z)
-    go true z (some t) e = (t, refl)
 
 -- the fields and the bytes that solve's answer counts
 abbrev pub fieldsOf : Solved → ℕ
@@ -208,5 +195,5 @@ module _ (T : Tables) (st : Store) (h : Stand T st) (s : ℕ) (q out₀ out : Li
       used t u e false b = early-tells (refusal (st .signature) q) (bad-question u b) (eqb-false (refusal (st .signature) q) 0 b)
 
       go : (b : Bool) → inUse st s ≡ b → Tells (pick b (solving (st .signature) (st .held s) q (length out₀)) (refused 4)) out₀ out x
-      go true u = let y = held-in-use st s u in rw (y .1) (used (y .0) u (y .1) (eqb (refusal (st .signature) q) 0) refl)
+      go true u = let y = in-use st s u .1 in rw (y .1) (used (y .0) u (y .1) (eqb (refusal (st .signature) q) 0) refl)
       go false u = early-tells 4 (out-of-use u) (λ z. omega arith)

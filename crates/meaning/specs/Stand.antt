@@ -1,18 +1,19 @@
 -- The lent tables stand for a store: docs/TABLES.md; field by field it is said in crate store (Means).
 use Prim.Native.Nat.{ℕ, _<_}
 use mathlib.Core.Path.{_≡_, refl, _∙_}
-use mathlib.Core.Bool.{true, false}
+use mathlib.Core.Bool.{Bool, true, false}
 use mathlib.Core.Option.{Option, some, none}
 use mathlib.Core.List.{List}
 use native.Mathlib.Omega.{arith}
 use native.Mathlib.Decide.{decLt}
-use borrow.Author.Tests.{lt-ltb, le-ltb}
+use borrow.Author.Tests.{lt-ltb, le-ltb, ltb-true}
 use lib.Dec.{eqb, ltb}
 use Rattle.laws.specs.Choice.{pick}
 use Rattle.keys.specs.Keys.{Tm}
 use Rattle.terms.specs.Terms.{sigRefusal}
 use Rattle.layout.specs.Layout.{isUsed}
 use Rattle.layout.specs.Tables.{Tables, ample}
+use Rattle.definitions.specs.Spelt.{clash}
 use Rattle.definitions.specs.Store.{Store, holding, inUse}
 use Rattle.store.specs.Means.{filled, trees, Holds, holds-ample}
 use Rattle.store.specs.Changes.{use-means}
@@ -41,3 +42,16 @@ module _ (T : Tables) (st : Store) (h : Stand T st) where
       go : Dec (s < 512) → eqb (filled (st .held s)) 1 ≡ pick (ltb s 512) (holding (λ t. true) (st .held s)) false
       go (yes l) = rw (lt-ltb s 512 l) (both (st .held s))
       go (no l) = rw (le-ltb s 512 (omega arith), h .holds .beyond s (omega arith))
+
+-- a slot in use, and what it holds
+pub in-use : (st : Store) (s : ℕ) → inUse st s ≡ true → (s < 512) × ((t : List ℕ) × (st .held s ≡ some t))
+unfolding inUse
+in-use st s h = go (ltb s 512) refl h
+  where
+    full : (o : Option (List ℕ)) → holding (λ t. true) o ≡ true → (t : List ℕ) × (o ≡ some t)
+    full none h = clash h
+    full (some t) h = (t, refl)
+
+    go : (b : Bool) → ltb s 512 ≡ b → pick b (holding (λ t. true) (st .held s)) false ≡ true → (s < 512) × ((t : List ℕ) × (st .held s ≡ some t))
+    go true e h = (ltb-true s 512 e, full (st .held s) h)
+    go false e h = clash h
