@@ -1,5 +1,5 @@
 -- The listings of sets of slots are the listings of stores, and the smallest free slot of the words is that of the store.
-use Prim.Native.Nat.{ℕ, zero, suc, _+_, _-_, _≤_, _<_}
+use Prim.Native.Nat.{ℕ, zero, suc, _+_, _-_, _*_, _≤_, _<_}
 use mathlib.Core.Path.{_≡_, refl}
 use mathlib.Core.Logic.{_↔_}
 use mathlib.Core.List.{List, [], _∷_}
@@ -7,6 +7,7 @@ use mathlib.Core.Bool.{Bool, true, false}
 use native.Mathlib.Omega.{arith}
 use borrow.Author.Tests.{eq-eqb, eqb-true, lt-ltb}
 use lib.Dec.{eqb}
+use lib.ListN.{length}
 use Rattle.laws.specs.Choice.{pick}
 use Rattle.slots.specs.Slots.{has, others, members, membersFrom, listed}
 use Rattle.layout.specs.Layout.{usedOf, isUsed}
@@ -70,3 +71,8 @@ pub listing-listed : (l : List ℕ) → listing l ≡ listed l
 unfolding listing listed
 listing-listed [] = refl
 listing-listed (s ∷ l) = rw (listing-listed l)
+
+pub listing-length : (l : List ℕ) → length (listing l) ≡ 2 * length l
+unfolding listing
+listing-length [] = refl
+listing-length (s ∷ l) = let h = listing-length l in omega arith
