@@ -8,6 +8,8 @@ use native.Mathlib.Decide.{decLe, decLt}
 use lib.ListN.{length, getD}
 use borrow.Author.Tests.{le-leb, lt-leb, lt-ltb, le-ltb}
 use Rattle.log.specs.Fields.{fieldAt, lengthAt}
+use Rattle.log.specs.Reading.{past, placeAfter, takenAt}
+use Rattle.log.specs.declared.reader.Taken.{Taken}
 use Rattle.log.specs.declared.field.Field.{Field}
 use Rattle.log.specs.declared.field.Field.the-variants.{End, Cut, Whole}
 
@@ -50,3 +52,41 @@ field-inside s at tag start n e = go (decLe (length s) at) (decLt (length s - at
         let p : start ≡ at + 3 = cc in
         let q : n ≡ lengthAt s at = cc in
         record { starts = p; within = omega arith }
+
+-- the place after the field at a place lies within the log
+pub past-within : (s : List ℕ) (at : ℕ) (f : Field) → f ≡ fieldAt s at → past f (length s) ≤ length s
+past-within s at End e = omega arith
+past-within s at Cut e = omega arith
+past-within s at (Whole tag start n) e = field-inside s at tag start n (sym e) .within
+
+pub taken-is : (s : List ℕ) (at : ℕ) (f : Field) (p : ℕ) → f ≡ fieldAt s at → p ≡ past f (length s) → _≡_ {A = Taken} (record { field = f; place = p }) (takenAt s at)
+taken-is s at f p e g = let h : p ≡ placeAfter s at = g ∙ ap (λ x. past x (length s)) e in λ i. record { field = e i; place = h i }
+
+pub past-whole : (f : Field) (tag start n end : ℕ) → f ≡ Whole tag start n → past f end ≡ start + n
+past-whole f tag start n end e = ap (λ x. past x end) e
+
+-- before the end, what is taken moves the reader on, and within the log
+pub record Onward (s : List ℕ) (at place : ℕ) : Type 0 where
+  pub on : at < place
+  pub in-log : place ≤ length s
+
+past-onward : (s : List ℕ) (at : ℕ) (f : Field) → at < length s → f ≡ fieldAt s at → Onward s at (past f (length s))
+past-onward s at End h e = record { on = h; in-log = omega arith }
+past-onward s at Cut h e = record { on = h; in-log = omega arith }
+past-onward s at (Whole tag start n) h e = let w = field-inside s at tag start n (sym e) in record { on = omega (arith, w .starts); in-log = w .within }
+
+pub taken-onward : (s : List ℕ) (at : ℕ) (t : Taken) → at < length s → t ≡ takenAt s at → Onward s at (t .place)
+taken-onward s at t h e =
+    let w = past-onward s at (fieldAt s at) h refl in
+    let p : t .place ≡ placeAfter s at = ap (λ x. x .place) e in
+    record { on = omega (arith, w .on); in-log = omega (arith, w .in-log) }
+
+-- a whole field that was taken, and the place after it
+pub record TakenWhole (s : List ℕ) (at start n place : ℕ) : Type 0 where
+  pub inside : Inside s at start n
+  pub place-is : place ≡ start + n
+
+pub taken-whole : (s : List ℕ) (at tag start n : ℕ) (t : Taken) → t ≡ takenAt s at → t .field ≡ Whole tag start n → TakenWhole s at start n (t .place)
+taken-whole s at tag start n t e g =
+    let f : fieldAt s at ≡ Whole tag start n = sym (ap (λ x. x .field) e) ∙ g in
+    record { inside = field-inside s at tag start n f; place-is = ap (λ x. x .place) e ∙ past-whole (fieldAt s at) tag start n (length s) f }

@@ -2,6 +2,7 @@
 mod field;
 mod line;
 mod put;
+mod reader;
 
 pub use field::Field;
 pub use field::field_at;
@@ -16,3 +17,7 @@ pub use put::put_decimal;
 pub use put::put_figure;
 pub use put::put_hex;
 pub use put::put_slots;
+pub use reader::Reader;
+pub use reader::Taken;
+pub use reader::read;
+pub use reader::take_at;

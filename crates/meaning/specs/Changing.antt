@@ -1,65 +1,29 @@
 -- Opening, insert and delete: what the tables answer is what the store answers, and afterwards they stand for the store afterwards.
 use Prim.Native.Nat.{ℕ, zero, suc, _+_, _≤_, _<_}
-use mathlib.Core.Path.{_≡_, refl, sym, _∙_}
+use mathlib.Core.Path.{_≡_, refl, sym}
 use mathlib.Core.List.{List}
 use mathlib.Core.Bool.{Bool, true, false}
 use mathlib.Core.Option.{Option, some, none}
 use native.Mathlib.Omega.{arith}
 use native.Mathlib.Decide.{decLt}
-use borrow.Author.Tests.{eq-eqb, ne-eqb, eqb-true, eqb-false, lt-ltb, le-ltb, ltb-true}
+use borrow.Author.Tests.{eq-eqb, ne-eqb, eqb-true, eqb-false, lt-ltb, le-ltb}
 use lib.Dec.{eqb, ltb}
 use lib.ListN.{length}
 use Rattle.laws.specs.Choice.{pick}
 use Rattle.terms.specs.Terms.{aritiesGood, sigRefusal, refusal}
 use Rattle.definitions.specs.Spelt.{clash}
-use Rattle.definitions.specs.Store.{Store, holding, inUse, freeFrom, firstFree, put, keyCount, Answer, refused, opened, slot, slots, openWith, insert, delete, answered, empty, unless, after}
-use Rattle.layout.specs.Layout.{isUsed}
+use Rattle.definitions.specs.Store.{Store, holding, inUse, freeFrom, firstFree, put, keyCount, Answer, refused, opened, slot, openWith, insert, delete, answered, empty, unless, after}
 use Rattle.layout.specs.Tables.{Tables, ample}
 use Rattle.layout.proofs.Laws.{long}
 use Rattle.store.specs.Tables.{upsOf, endsOf, roomFor, openedWith, insertedAt, deletedAt}
 use Rattle.store.specs.Calls.{Outcome, done, refusedBy, opening, inserting, deleting}
-use Rattle.store.specs.Means.{filled, good-same, holds-ample, open-holds}
+use Rattle.store.specs.Means.{open-holds}
 use Rattle.store.specs.Means as Slots
-use Rattle.store.specs.Changes.{insert-holds, delete-holds, use-means}
-use Rattle.meaning.specs.Holds.{treeIn, treesOf, Holds}
+use Rattle.store.specs.Changes.{insert-holds, delete-holds}
+use Rattle.meaning.specs.Stand.{Stand, stand-ample, stand-slots, in-use}
 use Rattle.meaning.specs.Lists.{free-first}
-use Rattle.meaning.specs.Room.{room-test}
+use Rattle.meaning.specs.Counting.{room-test}
 use Rattle.meaning.specs.Keyed.{refusalIn, countIn}
-
--- the tables stand for the store, by a signature that was checked
-pub record Stand (T : Tables) (st : Store) : Type 0 where
-  pub signed : sigRefusal (st .signature) ≡ 0
-  pub holds : Slots.Holds T (st .signature) (st .held)
-
-module _ (T : Tables) (st : Store) (h : Stand T st) where
-  used-slots : (s : ℕ) → isUsed (T .used) s ≡ inUse st s
-  unfolding inUse
-  used-slots s = use-means T (st .signature) (st .held) s (h .holds) ∙ go (decLt s 512)
-    where
-      both : (o : Option (List ℕ)) → eqb (filled o) 1 ≡ holding (λ t. true) o
-      both none = refl
-      both (some t) = refl
-
-      go : Dec (s < 512) → eqb (filled (st .held s)) 1 ≡ pick (ltb s 512) (holding (λ t. true) (st .held s)) false
-      go (yes l) = rw (lt-ltb s 512 l) (both (st .held s))
-      go (no l) = rw (le-ltb s 512 (omega arith), h .holds .beyond s (omega arith))
-
-  same-tree : (s : ℕ) → Slots.trees (st .signature) (st .held) s ≡ treesOf st s
-  same-tree s = go (st .held s)
-    where
-      go : (o : Option (List ℕ)) → Slots.treeIn (st .signature) o ≡ treeIn (st .signature) o
-      go none = refl
-      go (some t) = refl
-
-  pub stand-holds : Holds T st
-  stand-holds = record {
-    sound = record { signed = h .signed; bounded = h .holds .beyond; checked = λ s t e. h .holds .terms s t e .1 };
-    long = holds-ample T (st .signature) (st .held) (h .holds);
-    signature = h .holds .signature;
-    slots = used-slots;
-    terms = λ s t e. h .holds .terms s t e .0;
-    index = good-same _ _ _ same-tree (h .holds .index);
-  }
 
 -- an outcome is an answer, and its tables stand for a store
 pub record Does (o : Outcome) (a : Answer) (st : Store) : Type 0 where
@@ -87,10 +51,10 @@ signature-two sig n = go (eqb (length sig) 0) (ltb 256 (length sig)) (aritiesGoo
 
 pub opening-does : (T : Tables) (st : Store) (sig : List ℕ) → Stand T st → Does (opening T sig) (answered st (openWith sig)) (after st (openWith sig))
 unfolding opening after answered
-opening-does T st sig h = rw (holds-ample T (st .signature) (st .held) (h .holds)) (go (eqb (sigRefusal sig) 0) refl)
+opening-does T st sig h = rw (stand-ample T st h) (go (eqb (sigRefusal sig) 0) refl)
   where
     go : (b : Bool) → eqb (sigRefusal sig) 0 ≡ b → Does (pick b (done 0 (openedWith T sig)) (refusedBy (sigRefusal sig) T)) (pick b opened (refused 2)) (unless (pick b opened (refused 2)) st (empty sig))
-    go true e = record { number = refl; value = refl; stand = open-stand T sig (holds-ample T (st .signature) (st .held) (h .holds)) (eqb-true (sigRefusal sig) 0 e) }
+    go true e = record { number = refl; value = refl; stand = open-stand T sig (stand-ample T st h) (eqb-true (sigRefusal sig) 0 e) }
     go false e = rw (signature-two sig (eqb-false (sigRefusal sig) 0 e)) (does-refused 2 T st h)
 
 -- and the first opening, on tables that stand for nothing yet
@@ -103,21 +67,9 @@ put-held : (st : Store) (s : ℕ) (o : Option (List ℕ)) (T : Tables) → sigRe
 unfolding put Slots.changed
 put-held st s o T g h = record { signed = g; holds = h }
 
-in-use : (st : Store) (s : ℕ) → inUse st s ≡ true → (s < 512) × ((t : List ℕ) × (st .held s ≡ some t))
-unfolding inUse
-in-use st s h = go (ltb s 512) refl h
-  where
-    full : (o : Option (List ℕ)) → holding (λ t. true) o ≡ true → (t : List ℕ) × (o ≡ some t)
-    full none h = clash h
-    full (some t) h = (t, refl)
-
-    go : (b : Bool) → ltb s 512 ≡ b → pick b (holding (λ t. true) (st .held s)) false ≡ true → (s < 512) × ((t : List ℕ) × (st .held s ≡ some t))
-    go true e h = (ltb-true s 512 e, full (st .held s) h)
-    go false e h = clash h
-
 pub deleting-does : (T : Tables) (st : Store) (s : ℕ) → Stand T st → Does (deleting T s) (answered st (delete s)) (after st (delete s))
 unfolding deleting after answered
-deleting-does T st s h = rw (holds-ample T (st .signature) (st .held) (h .holds), used-slots T st h s) (go (inUse st s) refl)
+deleting-does T st s h = rw (stand-ample T st h, stand-slots T st h s) (go (inUse st s) refl)
   where
     go : (b : Bool) → inUse st s ≡ b → Does (pick b (done s (deletedAt T s)) (refusedBy 4 T)) (pick b (slot s) (refused 4)) (unless (pick b (slot s) (refused 4)) st (put st s none))
     go true e = let w = in-use st s e in
@@ -154,7 +106,7 @@ not-in-use st s l h = go (st .held s) (rw (lt-ltb s 512 l) at h)
 pub inserting-does : (T : Tables) (st : Store) (t : List ℕ) → Stand T st → Does (inserting T t) (answered st (insert t)) (after st (insert t))
 unfolding inserting after answered
 inserting-does T st t h =
-    rw (holds-ample T (st .signature) (st .held) (h .holds), h .holds .signature, free-first (T .used) st (h .holds .words) (λ s l. used-slots T st h s)) (go (eqb (refusal (st .signature) t) 0) refl)
+    rw (stand-ample T st h, h .holds .signature, free-first (T .used) st (h .holds .words) (λ s l. stand-slots T st h s)) (go (eqb (refusal (st .signature) t) 0) refl)
   where
     most : firstFree st ≤ 512
     most = free-most st 512 0
@@ -175,8 +127,7 @@ inserting-does T st t h =
         (pick (eqb (firstFree st) 512) (refused 11) (pick (ltb 4096 (keyCount (put st (firstFree st) (some t)))) (refused 12) (slot (firstFree st))))
         (unless (pick (eqb (firstFree st) 512) (refused 11) (pick (ltb 4096 (keyCount (put st (firstFree st) (some t)))) (refused 12) (slot (firstFree st)))) st (put st (firstFree st) (some t)))
     free (yes l) r =
-        let g = stand-holds T st h in
-        let m = room-test T st (firstFree st) t (g .sound) (g .index) l (not-in-use st (firstFree st) l (free-is st 512 0 l)) r in
+        let m = room-test T st (firstFree st) t h l (not-in-use st (firstFree st) l (free-is st 512 0 l)) r in
         rw (lt-ltb (firstFree st) 512 l, ne-eqb (firstFree st) 512 (λ z. omega arith), m) (roomy (roomFor (T .link) (T .label) (upsOf (st .signature) t) (endsOf (st .signature) t)) refl r l)
     free (no l) r = rw (le-ltb (firstFree st) 512 (omega arith), eq-eqb (firstFree st) 512 (omega (arith, most))) (does-refused 11 T st h)
 

@@ -6,7 +6,7 @@ use mathlib.Core.List.{List}
 use mathlib.Core.Bool.{Bool, true, false}
 use mathlib.Core.Option.{Option, some, none}
 use native.Mathlib.Omega.{arith}
-use borrow.Author.Tests.{eq-eqb, eqb-true, eqb-false, lt-ltb, ltb-true, ltb-false}
+use borrow.Author.Tests.{eq-eqb, eqb-true, eqb-false, ltb-false}
 use lib.Dec.{eqb, ltb}
 use lib.ListN.{length}
 use lib.Seq.{sets}
@@ -22,7 +22,7 @@ use Rattle.definitions.specs.Store.{Store, holding, inUse, candidates, answers,
 use Rattle.unify.specs.declared.Recorded.{Recorded}
 use Rattle.unify.specs.declared.Recorded.the-variants.{Written, Nothing, Long, Room}
 use Rattle.unify.specs.Whole.{Promise}
-use Rattle.layout.specs.Layout.{signatureOf, termOf, usedOf, isUsed}
+use Rattle.layout.specs.Layout.{signatureOf, termOf, usedOf}
 use Rattle.layout.specs.Tables.{Tables}
 use Rattle.retrieve.specs.declared.Retrieved.{Retrieved}
 use Rattle.retrieve.specs.declared.Solved.{Solved}
@@ -31,7 +31,8 @@ use Rattle.retrieve.specs.Stands.{Answers}
 use Rattle.retrieve.specs.Means.{Indexed, candidates-exact, answers-exact}
 use Rattle.retrieve.specs.Retrieving.{Found, foundOf, refusedBy, candidatesOf, retrieving, Retrieving}
 use Rattle.retrieve.specs.Solving.{solvedNumber, unsolvable, solvedBy, Solving}
-use Rattle.meaning.specs.Holds.{treeIn, treesOf, Holds}
+use Rattle.store.specs.Means.{filled, treeIn}
+use Rattle.meaning.specs.Stand.{Stand, treesOf, stand-ample, stand-slots, in-use}
 use Rattle.meaning.specs.Lists.{members-slots, listing-listed}
 use Rattle.meaning.specs.Keyed.{refusalIn, countIn}
 use Rattle.meaning.specs.Solved.{stands-iff, Solves, recordAnswer, recordLength, solved-means}
@@ -49,63 +50,43 @@ abbrev pub foundIn : Answer → List ℕ → Found
 foundIn a out = record { refused = refusalIn a; candidates = candidatesIn a; answers = countIn a; out = sets out 0 (written a) }
 
 -- a slot in use holds something
-filled : (o : Option (List ℕ)) → holding (λ t. true) o ≡ true → (t : List ℕ) × (o ≡ some t)
-filled none h = clash h
-filled (some t) h = (t, refl)
+filled-some : (o : Option (List ℕ)) → filled o ≡ 1 → (t : List ℕ) × (o ≡ some t)
+filled-some none h = absurd (omega arith)
+filled-some (some t) h = (t, refl)
 
-in-use-held : (st : Store) (s : ℕ) → s < 512 → inUse st s ≡ true → (t : List ℕ) × (st .held s ≡ some t)
-unfolding inUse
-in-use-held st s l h = filled (st .held s) (rw (lt-ltb s 512 l) at h)
-
-held-in-use : (st : Store) (s : ℕ) (t : List ℕ) → s < 512 → st .held s ≡ some t → inUse st s ≡ true
-unfolding inUse
-held-in-use st s t l h = rw (lt-ltb s 512 l, h)
-
-in-use-low : (st : Store) (s : ℕ) → inUse st s ≡ true → s < 512
-unfolding inUse
-in-use-low st s h = go (ltb s 512) refl h
-  where
-    go : (b : Bool) → ltb s 512 ≡ b → pick b (holding (λ t. true) (st .held s)) false ≡ true → s < 512
-    go true e h = ltb-true s 512 e
-    go false e h = clash h
-
-used-digit : (u : List ℕ) (s : ℕ) → s < 512 → (isUsed u s ≡ true) ↔ (has (usedOf u) s ≡ 1)
-unfolding isUsed
-used-digit u s l = rw (lt-ltb s 512 l) ((λ e. eqb-true (has (usedOf u) s) 1 e), (λ e. eq-eqb (has (usedOf u) s) 1 e))
-
-module _ (T : Tables) (st : Store) (h : Holds T st) where
+module _ (T : Tables) (st : Store) (h : Stand T st) where
   slot-held : (s : ℕ) → s < 512 → has (usedOf (T .used)) s ≡ 1 → (t : List ℕ) × (st .held s ≡ some t)
-  slot-held s l u = in-use-held st s l (sym (h .slots s) ∙ used-digit (T .used) s l .1 u)
+  slot-held s l u = filled-some (st .held s) (sym (h .holds .slots s l) ∙ u)
 
   held-slot : (s : ℕ) (t : List ℕ) → s < 512 → st .held s ≡ some t → has (usedOf (T .used)) s ≡ 1
-  held-slot s t l e = used-digit (T .used) s l .0 (h .slots s ∙ held-in-use st s t l e)
+  held-slot s t l e = h .holds .slots s l ∙ ap filled e
 
   pub indexed : Indexed T (treesOf st)
   indexed = record {
-    good = h .index;
-    term = λ s l u. let w = slot-held s l u in rw (h .signature, h .terms s (w .0) (w .1)) (h .sound .checked s (w .0) (w .1));
-    tree = λ s l u. let w = slot-held s l u in rw (h .signature, h .terms s (w .0) (w .1)) (ap (treeIn (st .signature)) (w .1));
+    good = h .holds .index;
+    term = λ s l u. let w = slot-held s l u in rw (h .holds .signature, h .holds .terms s (w .0) (w .1) .0) (h .holds .terms s (w .0) (w .1) .1);
+    tree = λ s l u. let w = slot-held s l u in rw (h .holds .signature, h .holds .terms s (w .0) (w .1) .0) (ap (treeIn (st .signature)) (w .1));
   }
 
   -- a test of the terms that the slots in use hold
   tested : (p : List ℕ → Bool) (s : ℕ) → s < 512 → ((has (usedOf (T .used)) s ≡ 1) × (p (termOf (T .bytes) s) ≡ true)) ↔ (holding p (st .held s) ≡ true)
   tested p s l = (
-    (λ z. let w = slot-held s l (z .0) in let e = h .terms s (w .0) (w .1) in let y : p (w .0) ≡ true = ap p (sym e) ∙ z .1 in rw (w .1) y),
+    (λ z. let w = slot-held s l (z .0) in let e = h .holds .terms s (w .0) (w .1) .0 in let y : p (w .0) ≡ true = ap p (sym e) ∙ z .1 in rw (w .1) y),
     (λ z. fro (st .held s) refl z),
   )
     where
       fro : (o : Option (List ℕ)) → st .held s ≡ o → holding p o ≡ true → (has (usedOf (T .used)) s ≡ 1) × (p (termOf (T .bytes) s) ≡ true)
       fro none e z = clash z
-      fro (some t) e z = (held-slot s t l e, ap p (h .terms s t e) ∙ z)
+      fro (some t) e z = (held-slot s t l e, ap p (h .holds .terms s t e .0) ∙ z)
 
   module _ (r : ℕ) (q : List ℕ) (f : refusal (st .signature) q ≡ 0) where
     fine : refusal (signatureOf (T .bytes)) q ≡ 0
-    fine = rw (h .signature) f
+    fine = rw (h .holds .signature) f
 
     -- the candidates are those of the store
     pub candidates-are : members (candidatesOf T r q) ≡ candidates st r q
     unfolding candidates
-    candidates-are = members-slots (candidatesOf T r q) (λ s. holding (λ t. isCandidate (st .signature) r q t) (st .held s)) (λ s l. at s l (rw (h .signature) at (candidates-exact T (treesOf st) indexed r q fine s l)))
+    candidates-are = members-slots (candidatesOf T r q) (λ s. holding (λ t. isCandidate (st .signature) r q t) (st .held s)) (λ s l. at s l (rw (h .holds .signature) at (candidates-exact T (treesOf st) indexed r q fine s l)))
       where
         at : (s : ℕ) → s < 512 → (has (candidatesOf T r q) s ≡ 1) ↔ ((has (usedOf (T .used)) s ≡ 1) × (isCandidate (st .signature) r q (termOf (T .bytes) s) ≡ true))
             → (has (candidatesOf T r q) s ≡ 1) ↔ (holding (λ t. isCandidate (st .signature) r q t) (st .held s) ≡ true)
@@ -114,13 +95,13 @@ module _ (T : Tables) (st : Store) (h : Holds T st) where
     -- and so are the answers
     pub answers-are : (ws : List ℕ) → r ≤ 4 → Answers (T .bytes) r (signatureOf (T .bytes)) q (candidatesOf T r q) ws → members ws ≡ answers st r q
     unfolding answers
-    answers-are ws k a = members-slots ws (λ s. holding (λ t. stands (st .signature) r t q) (st .held s)) (λ s l. at s l (rw (h .signature) at (answers-exact T (treesOf st) indexed r q fine ws k a s l)))
+    answers-are ws k a = members-slots ws (λ s. holding (λ t. stands (st .signature) r t q) (st .held s)) (λ s l. at s l (rw (h .holds .signature) at (answers-exact T (treesOf st) indexed r q fine ws k a s l)))
       where
         p : List ℕ → Bool
         p t = stands (st .signature) r t q
 
         holds : (s : ℕ) → s < 512 → has (usedOf (T .used)) s ≡ 1 → (p (termOf (T .bytes) s) ≡ true) ↔ Stands (st .signature) r (termOf (T .bytes) s) q
-        holds s l u = stands-iff (st .signature) r (termOf (T .bytes) s) q (h .sound .signed) (rw (h .signature) at (indexed .term s l u)) f
+        holds s l u = stands-iff (st .signature) r (termOf (T .bytes) s) q (h .signed) (rw (h .holds .signature) at (indexed .term s l u)) f
 
         at : (s : ℕ) → s < 512 → (has ws s ≡ 1) ↔ ((has (usedOf (T .used)) s ≡ 1) × Stands (st .signature) r (termOf (T .bytes) s) q) → (has ws s ≡ 1) ↔ (holding (λ t. stands (st .signature) r t q) (st .held s) ≡ true)
         at s l c = (
@@ -131,11 +112,8 @@ module _ (T : Tables) (st : Store) (h : Holds T st) where
   -- a retrieval answers what the store answers
   pub retrieving-means : (r : ℕ) (q out₀ out : List ℕ) (x : Retrieved) → Retrieving T r q out₀ out x → foundOf x out ≡ foundIn (answered st (retrieve r q (length out₀))) out₀
   unfolding retrieving answered
-  retrieving-means r q out₀ out x w = w .is ∙ rw (h .long, h .signature) (go (ltb 4 r) refl (eqb (refusal (st .signature) q) 0) refl)
+  retrieving-means r q out₀ out x w = w .is ∙ rw (stand-ample T st h, h .holds .signature) (go (ltb 4 r) refl (eqb (refusal (st .signature) q) 0) refl)
     where
-      ws : List ℕ
-      ws = w .answers
-
       last : List ℕ → List ℕ → Found
       last cs ms = pick (ltb (length out₀) (2 * length ms)) (refusedBy 15 out₀) (record { refused = 0; candidates = length cs; answers = length ms; out = sets out₀ 0 (listed ms) })
 
@@ -151,7 +129,7 @@ module _ (T : Tables) (st : Store) (h : Holds T st) where
       go false e false d = refl
       go false e true d =
           let f = eqb-true (refusal (st .signature) q) 0 d in
-          let a = answers-are r q f (w .answers) (ltb-false 4 r e) (w .exact (h .long) (ltb-false 4 r e) (rw (h .signature) f)) in
+          let a = answers-are r q f (w .answers) (ltb-false 4 r e) (w .exact (stand-ample T st h) (ltb-false 4 r e) (rw (h .holds .signature) f)) in
           rw (candidates-are r q f, a) (fit (ltb (length out₀) (2 * length (answers st r q))) (candidates st r q) (answers st r q))
 
 -- the fields and the bytes that solve's answer counts
@@ -183,21 +161,21 @@ tells-record a out₀ out w s = go w (s .is) (s .long)
     go Long e l = record { number = sym (ap refusalIn e); fields = sym (ap countIn e); long = l; bytes = s .bytes }
     go Room e l = record { number = sym (ap refusalIn e); fields = sym (ap countIn e); long = l; bytes = s .bytes }
 
-module _ (T : Tables) (st : Store) (h : Holds T st) (s : ℕ) (q out₀ out : List ℕ) (x : Solved) (w : Solving T s q out₀ out x) where
+module _ (T : Tables) (st : Store) (h : Stand T st) (s : ℕ) (q out₀ out : List ℕ) (x : Solved) (w : Solving T s q out₀ out x) where
   early-tells : (n : ℕ) → unsolvable T s q ≡ n → (n ≡ 0 → ⊥) → Tells (refused n) out₀ out x
   early-tells n e z = let y = w .early (λ o. z (sym e ∙ o)) in tells-refused n out₀ out x z (y .0 ∙ e) (y .1)
 
   out-of-use : inUse st s ≡ false → unsolvable T s q ≡ 4
   unfolding unsolvable
-  out-of-use u = rw (h .long, h .slots s, u)
+  out-of-use u = rw (stand-ample T st h, stand-slots T st h s, u)
 
   bad-question : inUse st s ≡ true → eqb (refusal (st .signature) q) 0 ≡ false → unsolvable T s q ≡ refusal (st .signature) q
   unfolding unsolvable
-  bad-question u b = rw (h .long, h .slots s, u, h .signature, b)
+  bad-question u b = rw (stand-ample T st h, stand-slots T st h s, u, h .holds .signature, b)
 
   solvable : (t : List ℕ) → inUse st s ≡ true → st .held s ≡ some t → eqb (refusal (st .signature) q) 0 ≡ true → unsolvable T s q ≡ 0
   unfolding unsolvable
-  solvable t u e b = rw (h .long, h .slots s, u, h .signature, b, h .terms s t e, eq-eqb (refusal (st .signature) t) 0 (h .sound .checked s t e))
+  solvable t u e b = rw (stand-ample T st h, stand-slots T st h s, u, h .holds .signature, b, h .holds .terms s t e .0, eq-eqb (refusal (st .signature) t) 0 (h .holds .terms s t e .1))
 
   -- solve answers what the store answers
   pub solving-means : Tells (answered st (solve s q (length out₀))) out₀ out x
@@ -207,8 +185,8 @@ module _ (T : Tables) (st : Store) (h : Holds T st) (s : ℕ) (q out₀ out : Li
       late : (t : List ℕ) → inUse st s ≡ true → st .held s ≡ some t → eqb (refusal (st .signature) q) 0 ≡ true → Tells (recorded (bindings? (st .signature) t q) (length out₀)) out₀ out x
       late t u e b =
           let y = w .late (solvable t u e b) in
-          let p : Promise (st .signature) (items t) (shift 32 (items q)) out₀ out (y .0) = rw (h .signature, h .terms s t e) at (y .2) in
-          let z = solved-means (st .signature) t q (h .sound .signed) (h .sound .checked s t e) (eqb-true (refusal (st .signature) q) 0 b) out₀ out (y .0) p in
+          let p : Promise (st .signature) (items t) (shift 32 (items q)) out₀ out (y .0) = rw (h .holds .signature, h .holds .terms s t e .0) at (y .2) in
+          let z = solved-means (st .signature) t q (h .signed) (h .holds .terms s t e .1) (eqb-true (refusal (st .signature) q) 0 b) out₀ out (y .0) p in
           rw (y .1) (tells-record _ out₀ out (y .0) z)
 
       used : (t : List ℕ) → inUse st s ≡ true → st .held s ≡ some t → (b : Bool) → eqb (refusal (st .signature) q) 0 ≡ b
@@ -217,5 +195,5 @@ module _ (T : Tables) (st : Store) (h : Holds T st) (s : ℕ) (q out₀ out : Li
       used t u e false b = early-tells (refusal (st .signature) q) (bad-question u b) (eqb-false (refusal (st .signature) q) 0 b)
 
       go : (b : Bool) → inUse st s ≡ b → Tells (pick b (solving (st .signature) (st .held s) q (length out₀)) (refused 4)) out₀ out x
-      go true u = let y = in-use-held st s (in-use-low st s u) u in rw (y .1) (used (y .0) u (y .1) (eqb (refusal (st .signature) q) 0) refl)
+      go true u = let y = in-use st s u .1 in rw (y .1) (used (y .0) u (y .1) (eqb (refusal (st .signature) q) 0) refl)
       go false u = early-tells 4 (out-of-use u) (λ z. omega arith)

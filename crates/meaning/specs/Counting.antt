@@ -1,21 +1,29 @@
 -- The number of distinct keys of a store is the number that the key table counts by; refusal 12.
-use Prim.Native.Nat.{ℕ, zero, suc, _+_, _-_, _≤_, _<_}
+use Prim.Native.Nat.{ℕ, zero, suc, _+_, _≤_, _<_}
 use mathlib.Core.Path.{_≡_, refl, subst}
 use mathlib.Core.Logic.{_⊎_, _↔_, ⊎-elim}
 use mathlib.Core.List.{List, _++_}
+use mathlib.Core.Bool.{Bool, true, false}
 use mathlib.Core.Option.{Option, some, none}
 use native.Mathlib.Omega.{arith}
 use native.Mathlib.Decide.{ℕ-discrete, decLt}
+use borrow.Author.Tests.{ne-eqb, lt-ltb, le-ltb}
+use lib.Dec.{ltb}
+use Rattle.laws.specs.Choice.{pick}
 use Rattle.laws.specs.Members.{In, in-append, in-left, in-right}
 use Rattle.keys.specs.Keys.{Place, Key, key}
 use Rattle.terms.specs.Terms.{refusal}
-use Rattle.definitions.specs.Spelt.{keys-stand}
-use Rattle.definitions.specs.Store.{Store, keysIn, keysFrom, keysHeld, distinct, keyCount}
+use Rattle.definitions.specs.Spelt.{clash, keys-stand}
+use Rattle.definitions.specs.Store.{Store, keysIn, keysFrom, keysHeld, distinct, keyCount, put}
+use Rattle.definitions.specs.Readable.{distinct-in, distinct-nodup}
 use Rattle.paths.specs.Insert.{RK}
 use Rattle.paths.specs.Store.{Stored, KeyIn}
 use Rattle.paths.specs.Count.{Distinct}
-use Rattle.meaning.specs.Holds.{treeIn, treesOf}
-use Rattle.definitions.specs.Readable.{distinct-in, distinct-nodup}
+use Rattle.layout.specs.Tables.{Tables}
+use Rattle.store.specs.Tables.{upsOf, endsOf, roomFor}
+use Rattle.store.specs.Means.{treeIn, changed}
+use Rattle.store.specs.Changes.{KeysOf, room-means}
+use Rattle.meaning.specs.Stand.{Stand, treesOf}
 
 module _ (st : Store) where
   -- a key of what a slot holds
@@ -54,3 +62,27 @@ module _ (st : Store) where
     into = λ u K h. distinct-in K (keysHeld st) .1 (into-keys 512 0 K u (omega arith) (omega (arith, slot-low b u K h)) h);
     many = refl;
   }
+
+-- REFUSAL 12: the table's test for free keys is the store's test of its number of distinct keys
+put-bounded : (T : Tables) (st : Store) (s : ℕ) (o : Option (List ℕ)) → Stand T st → s < 512 → (u : ℕ) → 512 ≤ u → put st s o .held u ≡ none
+unfolding put
+put-bounded T st s o h l u g = rw (ne-eqb u s (λ q. omega arith)) (h .holds .beyond u g)
+
+put-keys : (st : Store) (s : ℕ) (t : List ℕ) → Distinct (Stored (treesOf (put st s (some t)))) (keyCount (put st s (some t))) → Distinct (KeysOf (st .signature) (changed (st .held) s (some t))) (keyCount (put st s (some t)))
+unfolding put changed
+put-keys st s t d = d
+
+pub room-test : (T : Tables) (st : Store) (s : ℕ) (t : List ℕ) → Stand T st → s < 512 → st .held s ≡ none → refusal (st .signature) t ≡ 0
+    → ltb 4096 (keyCount (put st s (some t))) ≡ pick (roomFor (T .link) (T .label) (upsOf (st .signature) t) (endsOf (st .signature) t)) false true
+room-test T st s t h l e r =
+    let N = keyCount (put st s (some t)) in
+    let d = put-keys st s t (key-count (put st s (some t)) (put-bounded T st s (some t) h l)) in
+    go (roomFor (T .link) (T .label) (upsOf (st .signature) t) (endsOf (st .signature) t)) N (room-means T (st .signature) (st .held) t s N (h .holds) r e d)
+  where
+    go : (b : Bool) (n : ℕ) → (b ≡ true) ↔ (n ≤ 4096) → ltb 4096 n ≡ pick b false true
+    go true n k = le-ltb 4096 n (k .0 refl)
+    go false n k = lt-ltb 4096 n (more (decLt 4096 n))
+      where
+        more : Dec (4096 < n) → 4096 < n
+        more (yes q) = q
+        more (no q) = clash (k .1 (omega arith))

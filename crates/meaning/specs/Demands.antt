@@ -3,9 +3,9 @@
 -- are document 01's library as functions on stores (definitions/specs/Store.antt). That every call ends and does nothing undefined,
 -- on all bytes, numbers and lengths, is what it means that the functions are proved at all.
 use Prim.Native.Nat.{ℕ}
-use mathlib.Core.Path.{_≡_, refl, sym, ap, _∙_}
+use mathlib.Core.Path.{_≡_, sym, ap, _∙_}
 use mathlib.Core.Logic.{_≢_, _↔_}
-use mathlib.Core.Bool.{Bool, true, false}
+use mathlib.Core.Bool.{true, false}
 use mathlib.Core.Option.{some}
 use mathlib.Core.List.{List, _++_}
 use native.Mathlib.Omega.{arith}
@@ -22,11 +22,11 @@ use Rattle.definitions.specs.Records.{IsRecord, Short}
 use Rattle.definitions.specs.ReadBack.{Reads, readFields}
 use Rattle.definitions.specs.Sound.{Sound}
 use Rattle.definitions.specs.Readable.{Ascending, ascending-nodup, answers-are, answers-ascend, candidates-are, candidates-ascend, solve-none, solve-solved}
-use Rattle.definitions.specs.Store.{Store, Call, Answer, answered, after, empty, openWith, retrieve, solve, answers, candidates as candidatesIn, listing, written}
-use Rattle.meaning.specs.Changing.{Stand, stand-holds}
+use Rattle.definitions.specs.Store.{Store, Call, Answer, answered, after, openWith, retrieve, solve, answers, candidates as candidatesIn, listing, written}
+use Rattle.meaning.specs.Stand.{Stand, stand-ample, stand-sound}
 use Rattle.meaning.specs.Means.{call-means}
 use Rattle.meaning.specs.Quiet.{quiet, short-tables}
-use Rattle.meaning.specs.Opening.{open-number, open-run, stand-ample}
+use Rattle.meaning.specs.Opening.{open-number, open-run}
 use Rattle.meaning.specs.Told.{front-bytes, refused-number, retrieve-found, solve-found, room-of, room-solve}
 use Rattle.meaning.specs.Runs.{Reply, replyOf, Called, Run, opened, called}
 
@@ -36,7 +36,7 @@ run-stands T st (opened X S sig out₀ out r c z) = open-run X S sig out₀ out 
 run-stands T st (called X S st₀ c out₀ out r k d) = call-means X S st₀ c out₀ out r (run-stands X st₀ k) d .stand
 
 run-sound : (T : Tables) (st : Store) → Run T st → Sound st
-run-sound T st k = stand-holds T st (run-stands T st k) .sound
+run-sound T st k = stand-sound T st (run-stands T st k)
 
 -- DEMAND 1. 'Each refusal is given exactly under its stated condition, with its number, and changes no byte of tables or answer
 -- buffer': the reply is the store's answer to the call, and a refused call leaves everything.

@@ -1,7 +1,6 @@
-pub mod Holds
+pub mod Stand
 pub mod Lists
 pub mod Counting
-pub mod Room
 pub mod Keyed
 pub mod Solved
 pub mod Confirmed

@@ -1,5 +1,5 @@
 -- The listings of sets of slots are the listings of stores, and the smallest free slot of the words is that of the store.
-use Prim.Native.Nat.{ℕ, zero, suc, _+_, _-_, _*_, _/_, _%_, _^_, _≤_, _<_}
+use Prim.Native.Nat.{ℕ, zero, suc, _+_, _-_, _*_, _≤_, _<_}
 use mathlib.Core.Path.{_≡_, refl}
 use mathlib.Core.Logic.{_↔_}
 use mathlib.Core.List.{List, [], _∷_}
@@ -7,14 +7,14 @@ use mathlib.Core.Bool.{Bool, true, false}
 use native.Mathlib.Omega.{arith}
 use borrow.Author.Tests.{eq-eqb, eqb-true, lt-ltb}
 use lib.Dec.{eqb}
-use lib.ListN.{length, getD}
+use lib.ListN.{length}
 use Rattle.laws.specs.Choice.{pick}
 use Rattle.slots.specs.Slots.{has, others, members, membersFrom, listed}
-use Rattle.slots.proofs.Laws.{getD-words8, bit-not}
 use Rattle.layout.specs.Layout.{usedOf, isUsed}
 use Rattle.definitions.specs.Spelt.{clash}
 use Rattle.definitions.specs.Store.{Store, slotsFrom, slotsWith, inUse, freeFrom, firstFree, listing}
 use Rattle.store.specs.Tables.{leastFrom, freeSlot}
+use Rattle.store.specs.Kept.{Words, has-others}
 
 -- two tests that are true together
 pub same-test : (b c : Bool) → (b ≡ true) ↔ (c ≡ true) → b ≡ c
@@ -38,20 +38,6 @@ pub members-slots : (ws : List ℕ) (p : ℕ → Bool) → ((s : ℕ) → s < 51
 unfolding members
 members-slots ws p h = members-from ws p 512 0 (λ x a b. h x (omega arith))
 
--- words of eight, each as it was
-word-used : (u : List ℕ) (i : ℕ) → i < 8 → getD (usedOf u) i 0 ≡ getD u i 0
-unfolding usedOf
-word-used u i l = getD-words8 (λ j. getD u j 0) i l
-
-pub has-used : (u : List ℕ) (s : ℕ) → s < 512 → has (usedOf u) s ≡ has u s
-unfolding has
-has-used u s l = rw (word-used u (s / 64) (omega arith))
-
--- a slot is among the others where it is not in the set; words are below 2^64
-pub has-others : (ws : List ℕ) (s : ℕ) → s < 512 → getD ws (s / 64) 0 < 2 ^ 64 → has (others ws) s ≡ 1 - has ws s
-unfolding has others
-has-others ws s l f = rw (getD-words8 (λ i. 2 ^ 64 - 1 - getD ws i 0) (s / 64) (omega arith)) (bit-not 64 (getD ws (s / 64) 0) (s % 64) f (omega arith))
-
 has-two : (ws : List ℕ) (s : ℕ) → has ws s < 2
 unfolding has
 has-two ws s = omega arith
@@ -68,15 +54,12 @@ least-free ws st (suc k) s h =
     go false n = refl
 
 -- the smallest slot that the words do not have is the smallest that the store does not use
-pub free-first : (u : List ℕ) (st : Store) → ((i : ℕ) → i < 8 → getD u i 0 < 2 ^ 64) → ((s : ℕ) → s < 512 → isUsed u s ≡ inUse st s) → freeSlot u ≡ firstFree st
+pub free-first : (u : List ℕ) (st : Store) → Words u → ((s : ℕ) → s < 512 → isUsed u s ≡ inUse st s) → freeSlot u ≡ firstFree st
 unfolding freeSlot isUsed
-free-first u st f h = least-free (others (usedOf u)) st 512 0 (λ x a b. at x (omega arith))
+free-first u st w h = least-free (others (usedOf u)) st 512 0 (λ x a b. at x (omega arith))
   where
     at : (x : ℕ) → x < 512 → eqb (has (others (usedOf u)) x) 1 ≡ pick (inUse st x) false true
-    at x l =
-        let i : x / 64 < 8 = omega arith in
-        let e = has-others (usedOf u) x l (rw (word-used u (x / 64) i) (f (x / 64) i)) in
-        rw (← h x l, lt-ltb x 512 l, e) (go (has (usedOf u) x) (has-two (usedOf u) x))
+    at x l = rw (← h x l, lt-ltb x 512 l, has-others u x w l) (go (has (usedOf u) x) (has-two (usedOf u) x))
       where
         go : (n : ℕ) → n < 2 → eqb (1 - n) 1 ≡ pick (eqb n 1) false true
         go zero l = refl

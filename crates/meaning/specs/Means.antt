@@ -28,7 +28,8 @@ use Rattle.definitions.specs.Store.{Store, Call, Answer, answered, after, writt
 use Rattle.definitions.specs.Store as Abstract
 use Rattle.meaning.specs.Keyed.{refusalIn, countIn, shown, asking-means}
 use Rattle.meaning.specs.Confirmed.{candidatesIn, foundIn, retrieving-means, Tells, solving-means}
-use Rattle.meaning.specs.Changing.{Stand, stand-holds, Does, opening-does, inserting-does, deleting-does}
+use Rattle.meaning.specs.Stand.{Stand}
+use Rattle.meaning.specs.Changing.{Does, opening-does, inserting-does, deleting-does}
 use Rattle.meaning.specs.Runs.{Reply, told, openReply, insertReply, deleteReply, keyReply, retrieveReply, solveReply, replyOf, Called, opens, inserts, deletes, asks, retrieves, solves}
 
 -- the numbers and the buffer are those of the answer; the tables stand for the store
@@ -124,7 +125,7 @@ recording-solving sig (some t) q room = recording-pick (eqb (refusal sig q) 0) _
 
 module _ (T : Tables) (st : Store) (h : Stand T st) (out₀ : List ℕ) where
   key-answer : (k out : List ℕ) (r : Listed) → keyListing r out ≡ asking T k out₀ → Meant (answered st (Abstract.withKey k (length out₀))) st T out₀ out (keyReply r)
-  key-answer k out r e = go r (e ∙ asking-means T st (stand-holds T st h) k out₀)
+  key-answer k out r e = go r (e ∙ asking-means T st h k out₀)
     where
       A : Answer
       A = answered st (Abstract.withKey k (length out₀))
@@ -169,5 +170,5 @@ call-means T S st c out₀ out r h (opens sig X x e) = open-means T st h out₀ 
 call-means T S st c out₀ out r h (inserts t X x e) = insert-means T st h out₀ t X x e
 call-means T S st c out₀ out r h (deletes s X x e) = delete-means T st h out₀ s X x e
 call-means T S st c out₀ out r h (asks k o x e) = key-answer T st h out₀ k o x e
-call-means T S st c out₀ out r h (retrieves n q o x e) = retrieve-answer T st h out₀ n q o x (retrieving-means T st (stand-holds T st h) n q out₀ o x e)
-call-means T S st c out₀ out r h (solves s q o x e) = solve-answer T st h out₀ s q o x (solving-means T st (stand-holds T st h) s q out₀ o x e)
+call-means T S st c out₀ out r h (retrieves n q o x e) = retrieve-answer T st h out₀ n q o x (retrieving-means T st h n q out₀ o x e)
+call-means T S st c out₀ out r h (solves s q o x e) = solve-answer T st h out₀ s q o x (solving-means T st h s q out₀ o x e)

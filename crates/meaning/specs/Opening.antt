@@ -13,13 +13,11 @@ use Rattle.store.specs.Tables.{openedWith}
 use Rattle.store.specs.Calls.{Outcome, done, refusedBy, openOutcome, opening}
 use Rattle.store.specs.declared.Opened.{Opened}
 use Rattle.store.specs.declared.Opened.the-variants as Opened
-use Rattle.definitions.specs.Store.{Store, openWith, empty}
-use Rattle.meaning.specs.Changing.{Stand, stand-holds, open-stand}
+use Rattle.definitions.specs.Store.{openWith, empty}
+use Rattle.meaning.specs.Stand.{Stand}
+use Rattle.meaning.specs.Changing.{open-stand}
 use Rattle.meaning.specs.Quiet.{short-tables}
 use Rattle.meaning.specs.Runs.{Reply, openReply, Called, opens}
-
-pub stand-ample : (T : Tables) (st : Store) → Stand T st → ample T ≡ true
-stand-ample T st h = stand-holds T st h .long
 
 open-told : (x : Opened) (S : Tables) → openReply x .refused ≡ openOutcome x S .refused
 open-told Opened.Open S = refl

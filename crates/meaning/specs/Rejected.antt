@@ -1,6 +1,6 @@
 -- Document 01, 'What the contracts owe': programs that have to be rejected, where no edit of the code keeps its shape. The others are
 -- edits in must-fail/ (docs/CONTRACTS.md).
-use Prim.Native.Nat.{ℕ, suc}
+use Prim.Native.Nat.{ℕ}
 use mathlib.Core.Path.{_≡_, refl, sym, _∙_}
 use mathlib.Core.Logic.{_≢_, inl}
 use mathlib.Core.Bool.{true}

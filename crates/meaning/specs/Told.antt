@@ -13,7 +13,6 @@ use Rattle.laws.specs.Choice.{pick}
 use Rattle.terms.specs.Terms.{refusal}
 use Rattle.theory.specs.Unify.{Bind, full}
 use Rattle.layout.specs.Tables.{Tables}
-use Rattle.unify.specs.Record.{front}
 use Rattle.definitions.specs.Decisions.{bindings?}
 use Rattle.definitions.specs.Records.{recordOf, countOf}
 use Rattle.definitions.specs.Sound.{Sound}

@@ -89,15 +89,16 @@ pub fn task_at(input: &[u8], at: usize) -> Task
     requires { ⌜ at < length (now input) ⌝ }
     ensures { λ r. ⌜ (r .start ≤ r .end) × (at < r .end) × (r .end ≤ length (now (input .entry))) ⌝ }
 {
-    let field = log::field_at(input, at);
+    let taken = log::read(input, at);
+    let field = taken.field;
+    let end = taken.place;
     let Field::Whole { tag, start, length } = field else {
         return Task {
             order: Order::Nothing,
             start: at,
-            end: input.len(),
+            end: end,
         };
     };
-    let end = start + length;
     let order = order_of(at == 0, tag, &input[start..end]);
     let skip = fixed(order);
     if length < skip {
