@@ -145,8 +145,8 @@ module _ (ar : ℕ → ℕ) where
 
     -- the answer
     pub data Answer : Type 0 where
-      some : (B : List Bind) → Good B → Mgu ar s t (full B) → Least (full B) → Answer
-      none : ((σ : ℕ → List Item) → Sub ar σ → app σ s ≡ app σ t → ⊥) → Answer
+      bound : (B : List Bind) → Good B → Mgu ar s t (full B) → Least (full B) → Answer
+      unsolvable : ((σ : ℕ → List Item) → Sub ar σ → app σ s ≡ app σ t → ⊥) → Answer
 
     -- x, with no binding, against a term u that is not x
     unfoldable pub at-bind : (B : List Bind) (k x : ℕ) (u l m : List Item) → Terms ar 1 u → Terms ar k m → Unbound x B → ¬ In x (app (full B) u)
@@ -182,7 +182,7 @@ module _ (ar : ℕ → ℕ) where
         a′ = subst (λ (r : List Item). At B (suc k) (va x ∷ l) r) (sym (first-rest ar 1 (sy f ∷ m))) a
 
         go : Dec (In x (app (full B) (first ar (ar f + 0) m))) → Answer
-        go (yes i) = none (none-circular ar s t B k x f (first ar (ar f + 0) m) l (rest ar (ar f + 0) m) one₁ i (a′ .inv))
+        go (yes i) = unsolvable (none-circular ar s t B k x f (first ar (ar f + 0) m) l (rest ar (ar f + 0) m) one₁ i (a′ .inv))
         go (no i) = ih ((x := (sy f ∷ first ar (ar f + 0) m)) ∷ B) k l (rest ar (ar f + 0) m)
             (at-bind B k x (sy f ∷ first ar (ar f + 0) m) l (rest ar (ar f + 0) m) one₁ (rest-terms ar 1 k (sy f ∷ m) more) n i
             (λ y e. let c : _≡_ {A = ℕ} 0 1 = cc in absurd (omega arith)) a′)
@@ -201,7 +201,7 @@ module _ (ar : ℕ → ℕ) where
         apart (inl e) = omega arith
 
     unfoldable pub step : (B : List Bind) (k : ℕ) (l m : List Item) → At B k l m → Ready B l → Ready B m → Fewer B → Smaller B l → Answer
-    step B zero [] [] a p q ih jh = some B (a .inv .good) (found ar s t B [] (a .inv)) (a .inv .least)
+    step B zero [] [] a p q ih jh = bound B (a .inv .good) (found ar s t B [] (a .inv)) (a .inv .least)
     step B zero [] (j ∷ m) a p q ih jh = absurd (a .inv .right)
     step B zero (i ∷ l) m a p q ih jh = absurd (a .inv .left)
     step B (suc k) [] m a p q ih jh = absurd (a .inv .left)
@@ -211,7 +211,7 @@ module _ (ar : ℕ → ℕ) where
     step B (suc k) (sy f ∷ l) (sy g ∷ m) a p q ih jh = go (ℕ-discrete g f)
       where
         go : Dec (g ≡ f) → Answer
-        go (no h) = none (none-clash ar s t B (suc k) f g l m (λ e. h (sym e)) (a .inv))
+        go (no h) = unsolvable (none-clash ar s t B (suc k) f g l m (λ e. h (sym e)) (a .inv))
         go (yes h) = jh (ar f + k) l m
             (record { inv = step-symbol ar s t B k f l m (subst (λ (r : ℕ). Inv ar s t B (suc k) (sy f ∷ l) (sy r ∷ m)) h (a .inv)); lin = a .lin; rin = a .rin; bin = a .bin })
             (omega arith)
@@ -262,8 +262,8 @@ module _ (ar : ℕ → ℕ) where
   terms? (suc k) (sy s ∷ l) = terms? (ar s + k) l
 
   abbrev pub bindings : {s t : List Item} {N : List ℕ} → Answer s t N → Option (List Bind)
-  bindings (some B g m l) = Option.some B
-  bindings (none h) = Option.none
+  bindings (bound B g m l) = Option.some B
+  bindings (unsolvable h) = Option.none
 
   abbrev pub asked : (s t : List Item) → Dec (Terms ar 1 s) → Dec (Terms ar 1 t) → Option (List Bind)
   asked s t (yes p) (yes q) = bindings (solve s t p q)
@@ -284,8 +284,8 @@ module _ (ar : ℕ → ℕ) where
   solution-right s t p q = go (terms? 1 s) (terms? 1 t)
     where
       told : (N : List ℕ) (a : Answer s t N) → Solution s t (bindings a)
-      told N (some B g m l) = (g, m, l)
-      told N (none h) = h
+      told N (bound B g m l) = (g, m, l)
+      told N (unsolvable h) = h
 
       go : (d : Dec (Terms ar 1 s)) (e : Dec (Terms ar 1 t)) → Solution s t (asked s t d e)
       go (yes a) (yes b) = told (variables (s ++ t)) (solve s t a b)

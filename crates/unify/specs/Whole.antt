@@ -121,19 +121,19 @@ module _ (sig pool tab sz : List ℕ) (s : Sizes sig pool tab 64 sz) (short : (y
   total-record = total-from 64 0 (omega arith)
 
 -- the number of fields: 0 or 1 for an entry of the table
-abbrev pub some : ℕ → ℕ
-some zero = 0
-some (suc p) = 1
+abbrev pub present : ℕ → ℕ
+present zero = 0
+present (suc p) = 1
 
-pub some-one : (e : ℕ) → e ≢ 0 → 1 ≡ some e
-some-one zero n = absurd (n refl)
-some-one (suc e) n = refl
+pub present-one : (e : ℕ) → e ≢ 0 → 1 ≡ present e
+present-one zero n = absurd (n refl)
+present-one (suc e) n = refl
 
 unfoldable pub countFrom : List ℕ → ℕ → ℕ → ℕ
 countFrom tab zero y = 0
-countFrom tab (suc k) y = some (getD tab y 0) + countFrom tab k (y + 1)
+countFrom tab (suc k) y = present (getD tab y 0) + countFrom tab k (y + 1)
 
-pub count-turn : (tab : List ℕ) (k y : ℕ) → k ≢ 0 → countFrom tab k y ≡ some (getD tab y 0) + countFrom tab (k - 1) (y + 1)
+pub count-turn : (tab : List ℕ) (k y : ℕ) → k ≢ 0 → countFrom tab k y ≡ present (getD tab y 0) + countFrom tab (k - 1) (y + 1)
 unfolding countFrom
 count-turn tab zero y n = absurd (n refl)
 count-turn tab (suc k) y n = let e : suc k - 1 ≡ k = omega arith in rw e
@@ -149,9 +149,9 @@ module _ (sig pool tab : List ℕ) (G : Given sig pool) (B : List Bind) (g : Goo
   counts (suc k) y b = go (items? (full B y) (vars y)) (counts k (y + 1) (omega arith))
     where
       go : (d : Dec (full B y ≡ vars y)) → countFrom tab k (y + 1) ≡ length (listedFrom (full B) k (y + 1))
-          → some (getD tab y 0) + countFrom tab k (y + 1) ≡ length (unless d (y := full B y) (listedFrom (full B) k (y + 1)))
+          → present (getD tab y 0) + countFrom tab k (y + 1) ≡ length (unless d (y := full B y) (listedFrom (full B) k (y + 1)))
       go (yes e) h = rw (entry-own sig pool tab G B g t few y (omega arith) e, h) (omega arith)
-      go (no n) h = let c = some-one (getD tab y 0) (entry-other sig pool tab G B g t few y (omega arith) n) in omega arith
+      go (no n) h = let c = present-one (getD tab y 0) (entry-other sig pool tab G B g t few y (omega arith) n) in omega arith
 
   pub count-full : countFrom tab 64 0 ≡ countOf (full B)
   unfolding countOf

@@ -22,7 +22,7 @@ ghost use Rattle.unify.specs.Push.{Pushed};
 ghost use Rattle.unify.specs.Arms.{Bound, Merged};
 ghost use Rattle.unify.specs.Run.{Given, Shape, Led, term, Ended};
 ghost use Rattle.unify.specs.Face.{Faced};
-ghost use Rattle.unify.specs.Whole.{bytesIf, totalFrom, some, countFrom, Promise};
+ghost use Rattle.unify.specs.Whole.{bytesIf, totalFrom, present as presence, countFrom, Promise};
 ghost use Rattle.unify.specs.Values.{value};
 ghost use Rattle.unify.specs.Fields.{part, recordBytes};
 ghost use Rattle.unify.specs.Record.{itemBytes, termBytes, front, Goes};
@@ -573,7 +573,7 @@ fn total(tab: &[u8; 64], sz: &[u16; 64]) -> usize
 
 // 1 for an entry that is not 0.
 fn present(e: u8) -> usize
-    ensures { λ r. ⌜ (r ≡ some e) × (r ≤ 1) ⌝ }
+    ensures { λ r. ⌜ (r ≡ presence e) × (r ≤ 1) ⌝ }
 {
     if e == 0 { 0 } else { 1 }
 }
