@@ -1,8 +1,18 @@
 -- THE THREE DEMANDS, over every run of calls: an opening, from any memory, and then any calls with any arguments, refused ones too.
--- `Called` is a call of the very functions that the programs call, by their contracts (Runs.antt); `Store`, `answered` and `after`
--- are document 01's library as functions on stores (definitions/specs/Store.antt). That every call ends and does nothing undefined,
--- on all bytes, numbers and lengths, is what it means that the functions are proved at all.
-use Prim.Native.Nat.{ℕ}
+--
+-- How to read it. T and S are the eight lent tables whole, before and after a call; out₀ and out the answer buffer before and after;
+-- st a store; c a call; r its reply: the number of the refusal or 0, and up to two numbers more (retrieve: candidates, answers; solve:
+-- fields, bytes; the others: the slot or the count). `(x : A) × B` says that there is such an x, `↔` exactly when, `→ ⊥` not.
+-- `Called` is a call of the very functions that the programs call: each case has the `ensures` of that function (Runs.antt).
+-- `Store`, `answered` and `after` are document 01's library as functions on stores (definitions/specs/Store.antt), and
+-- definitions/specs/Readable.antt says what they compute in document 01's words. `refusal sig t ≡ 0` says that t is a term
+-- (definitions/specs/Spelt.antt, term-tree and tree-term). What follows an `=` is proof, and need not be read.
+--
+-- That every call ends and does nothing undefined, on all bytes, numbers and lengths, is what it means that the functions are proved
+-- at all: none of the six asks anything of its caller, and the prover takes a function only with its ending, its indices and its
+-- arithmetic shown. Refusal 10 is given by the argument of a term alone (terms, `argument_refusal`, argRefusal), 16 by the log
+-- program alone (replay).
+use Prim.Native.Nat.{ℕ, _≤_, _<_}
 use mathlib.Core.Path.{_≡_, sym, ap, _∙_}
 use mathlib.Core.Logic.{_≢_, _↔_}
 use mathlib.Core.Bool.{true, false}
@@ -18,12 +28,17 @@ use Rattle.layout.specs.Tables.{Tables, ample}
 use Rattle.definitions.specs.Trees.{treeOf}
 use Rattle.definitions.specs.Formulas.{formula, trees}
 use Rattle.definitions.specs.Relations.{Stands}
-use Rattle.definitions.specs.Records.{IsRecord, Short}
+use Rattle.definitions.specs.Records.{Unifier, IsRecord, Short}
+use Rattle.theory.specs.Flat.{Item}
+use Rattle.theory.specs.Items.{items, shift}
+use Rattle.slots.specs.Slots.{members}
+use Rattle.retrieve.specs.Retrieving.{candidatesOf}
 use Rattle.definitions.specs.ReadBack.{Reads, readFields}
 use Rattle.definitions.specs.Sound.{Sound}
-use Rattle.definitions.specs.Readable.{Ascending, ascending-nodup, answers-are, answers-ascend, candidates-are, candidates-ascend, solve-none, solve-solved}
-use Rattle.definitions.specs.Store.{Store, Call, Answer, answered, after, openWith, retrieve, solve, answers, candidates as candidatesIn, listing, written}
+use Rattle.definitions.specs.Readable.{Ascending, ascending-nodup, answers-are, answers-ascend, candidates-are, candidates-ascend, solve-none, solve-long, solve-room, solve-writes, solve-solved}
+use Rattle.definitions.specs.Store.{Store, Call, Answer, answered, empty, after, openWith, retrieve, solve, answers, candidates as candidatesIn, listing, written}
 use Rattle.meaning.specs.Stand.{Stand, stand-ample, stand-sound}
+use Rattle.meaning.specs.Confirmed.{candidates-are as walked-are}
 use Rattle.meaning.specs.Means.{call-means}
 use Rattle.meaning.specs.Quiet.{quiet, short-tables}
 use Rattle.meaning.specs.Opening.{open-number, open-run}
@@ -39,12 +54,17 @@ run-sound : (T : Tables) (st : Store) → Run T st → Sound st
 run-sound T st k = stand-sound T st (run-stands T st k)
 
 -- DEMAND 1. 'Each refusal is given exactly under its stated condition, with its number, and changes no byte of tables or answer
--- buffer': the reply is the store's answer to the call, and a refused call leaves everything.
+-- buffer': the reply is the store's answer to the call, and the buffer has the answer's bytes in front and no other byte changed.
 pub demand-1 : (T S : Tables) (st : Store) (c : Call) (out₀ out : List ℕ) (r : Reply) → Run T st → Called T out₀ c S out r
-    → (r ≡ replyOf (answered st c)) × (r .refused ≢ 0 → (S ≡ T) × (out ≡ out₀))
-demand-1 T S st c out₀ out r k d = (call-means T S st c out₀ out r (run-stands T st k) d .reply, quiet T S c out₀ out r d)
+    → (r ≡ replyOf (answered st c)) × (out ≡ sets out₀ 0 (written (answered st c)))
+demand-1 T S st c out₀ out r k d = let m = call-means T S st c out₀ out r (run-stands T st k) d in (m .reply, m .bytes)
 
--- refusal 1 is given exactly where a table is short, whatever the tables hold: by every call, and by none on the tables of a run
+-- a refused call changes nothing, on all tables
+pub demand-1-quiet : (T S : Tables) (c : Call) (out₀ out : List ℕ) (r : Reply) → Called T out₀ c S out r → r .refused ≢ 0 → (S ≡ T) × (out ≡ out₀)
+demand-1-quiet T S c out₀ out r d n = quiet T S c out₀ out r d n
+
+-- refusal 1: every call gives it where a table is short (docs/TABLES.md has the lengths), whatever the tables hold; the tables of a
+-- run are never short, so that demand-1 has all its numbers
 pub demand-1-table : (T S : Tables) (c : Call) (out₀ out : List ℕ) (r : Reply) → Called T out₀ c S out r → ample T ≡ false → (r .refused ≡ 1) × (S ≡ T) × (out ≡ out₀)
 demand-1-table T S c out₀ out r d a =
     let e = short-tables T S c out₀ out r a d in let q = quiet T S c out₀ out r d (λ z. clash (sym e ∙ z)) in (e, q .0, q .1)
@@ -55,9 +75,13 @@ demand-1-table T S c out₀ out r d a =
 pub demand-1-run : (T : Tables) (st : Store) → Run T st → ample T ≡ true
 demand-1-run T st k = stand-ample T st (run-stands T st k)
 
--- 'opening keeps its full promise on all memory'
+-- 'opening keeps its full promise on all memory': it is refused exactly where its signature is, and else a run begins; so a library
+-- that refuses everything is none
 pub demand-1-open : (T S : Tables) (sig out₀ out : List ℕ) (r : Reply) → Called T out₀ (openWith sig) S out r → ample T ≡ true → r .refused ≡ sigRefusal sig
 demand-1-open T S sig out₀ out r d a = open-number T S sig out₀ out r a d
+
+pub demand-1-begins : (T S : Tables) (sig out₀ out : List ℕ) (r : Reply) → Called T out₀ (openWith sig) S out r → ample T ≡ true → sigRefusal sig ≡ 0 → Run S (empty sig)
+demand-1-begins T S sig out₀ out r d a z = opened T S sig out₀ out r d (open-number T S sig out₀ out r a d ∙ z)
 
 -- DEMAND 2. 'After any run of opening, inserts and deletes, a retrieval lists exactly the slots whose term stands in the asked
 -- relation, each once, ascending. The candidates before confirmation are those of the path formulas of SRI Technical Note 473.'
@@ -95,6 +119,12 @@ demand-2 T S st relation room q out₀ out r k d z =
       count = ap (λ (x : Reply). x .first) e;
     }
 
+-- the candidates themselves: the set that the walk through the tables leaves for confirmation is the formula's
+pub demand-2-candidates : (T : Tables) (st : Store) (relation : ℕ) (q : List ℕ) → Run T st → refusal (st .signature) q ≡ 0 → (s : ℕ)
+    → In s (members (candidatesOf T relation q)) ↔ (formula relation (trees (st .signature) (st .held)) (treeOf (st .signature) q) s ≡ true)
+demand-2-candidates T st relation q k c s =
+    rw (walked-are T st (run-stands T st k) relation q c) (candidates-are st (run-sound T st k) relation q c s)
+
 -- DEMAND 3. '"No unifier" is answered exactly when there is none, of terms however large. Otherwise the record written is the most
 -- general unifier: it makes both terms the same, is idempotent, and every unifier factors through it.'
 pub demand-3-none : (T S : Tables) (st : Store) (s room : ℕ) (t q out₀ out : List ℕ) (r : Reply) → Run T st → st .held s ≡ some t → refusal (st .signature) q ≡ 0
@@ -109,7 +139,9 @@ demand-3-none T S st s room t q out₀ out r k e c d =
     clash : _≡_ {A = ℕ} 13 0 → ⊥
     clash z = omega arith
 
--- what stands in the buffer: n bytes of a record, which read back as fields are the unifier (`Reads`: the three properties, the
+-- 'however large': no size occurs here. A stored term and a question have 1 to 32 items; values may have any size, and one of over
+-- 2,048 items is refusal 14, never 13.
+-- What stands in the buffer: n bytes of a record, which read back as fields are the unifier (`Reads`: the three properties, the
 -- variables ascending, each occurring in one of the terms, none with itself as value), and nothing beyond them is changed
 pub record Solution (sig t q out₀ out : List ℕ) (r : Reply) : Type 0 where
   pub record-bytes : List ℕ
@@ -137,3 +169,29 @@ demand-3 T S st s room t q out₀ out r k e c d z =
       fields = ap (λ (x : Reply). x .first) p ∙ v .count;
       short = v .short;
     }
+
+-- and it is written unless a value is too long or the buffer too short: 14 exactly where some value has over 2,048 items
+pub demand-3-long : (T S : Tables) (st : Store) (s room : ℕ) (t q out₀ out : List ℕ) (r : Reply) → Run T st → st .held s ≡ some t → refusal (st .signature) q ≡ 0
+    → Called T out₀ (solve s q room) S out r → (r .refused ≡ 14) ↔ ((θ : ℕ → List Item) × Unifier (st .signature) (items t) (shift 32 (items q)) θ × (Short θ → ⊥))
+demand-3-long T S st s room t q out₀ out r k e c d =
+    let m = call-means T S st (solve s q room) out₀ out r (run-stands T st k) d in
+    let n = solve-long st (run-sound T st k) s t e q c room in (
+      (λ z. n .0 (refused-number (answered st (solve s q room)) 14 (λ y. clash y) (sym (ap (λ (x : Reply). x .refused) (m .reply)) ∙ z))),
+      (λ u. ap (λ (x : Reply). x .refused) (m .reply ∙ ap replyOf (n .1 u))),
+    )
+  where
+    clash : _≡_ {A = ℕ} 14 0 → ⊥
+    clash z = omega arith
+
+-- a record that is short and fits is written; one that does not fit is refused with 15
+pub demand-3-written : (T S : Tables) (st : Store) (s room : ℕ) (t q out₀ out w : List ℕ) (r : Reply) → Run T st → st .held s ≡ some t → refusal (st .signature) q ≡ 0
+    → Called T out₀ (solve s q room) S out r → (i : IsRecord (st .signature) t q w) → Short (i .by) → length w ≤ length out₀ → r .refused ≡ 0
+demand-3-written T S st s room t q out₀ out w r k e c d i h l =
+    let m = call-means T S st (solve s q room) out₀ out r (run-stands T st k) d in
+    ap (λ (x : Reply). x .refused) (m .reply ∙ ap replyOf (solve-writes st (run-sound T st k) s t e q c room w i h (omega (arith, l, room-solve T S out₀ s room q out r d))))
+
+pub demand-3-room : (T S : Tables) (st : Store) (s room : ℕ) (t q out₀ out w : List ℕ) (r : Reply) → Run T st → st .held s ≡ some t → refusal (st .signature) q ≡ 0
+    → Called T out₀ (solve s q room) S out r → (i : IsRecord (st .signature) t q w) → Short (i .by) → length out₀ < length w → r .refused ≡ 15
+demand-3-room T S st s room t q out₀ out w r k e c d i h l =
+    let m = call-means T S st (solve s q room) out₀ out r (run-stands T st k) d in
+    ap (λ (x : Reply). x .refused) (m .reply ∙ ap replyOf (solve-room st (run-sound T st k) s t e q c room w i h (omega (arith, l, room-solve T S out₀ s room q out r d))))
