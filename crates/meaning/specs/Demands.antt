@@ -10,8 +10,8 @@
 --
 -- That every call ends and does nothing undefined, on all bytes, numbers and lengths, is what it means that the functions are proved
 -- at all: none of the six asks anything of its caller, and the prover takes a function only with its ending, its indices and its
--- arithmetic shown. Refusal 10 is given by the argument of a term alone (terms, `argument_refusal`, argRefusal), 16 by the log
--- program alone (replay).
+-- arithmetic shown; so every call has an outcome. The checks of a signature and of a term and the argument of a term, with refusal
+-- 10, are calls without tables and have their contracts in terms (sigRefusal, refusal, argRefusal); 16 is the log program's (replay).
 use Prim.Native.Nat.{ℕ, _≤_, _<_}
 use mathlib.Core.Path.{_≡_, sym, ap, _∙_}
 use mathlib.Core.Logic.{_≢_, _↔_}
