@@ -10,14 +10,14 @@ use native.Mathlib.Nat.{mod-lt, mod-eq-of-lt, div-eq-of-lt, one-mul, pow-suc, di
 use native.Mathlib.Numerals.{one-add}
 use borrow.Author.Tests.{eq-eqb, ne-eqb, eqb-true, eqb-false}
 use lib.Arith.{digits-mod}
-use lib.Bits.{bitAnd, bitOr, bitXor, differ, and-shr, or-shr, xor-shr, and-step, or-step, xor-step, or-lt, xor-lt, and-lt}
+use lib.Bits.{bitAnd, bitOr, bitXor, and-shr, or-shr, xor-shr, and-step, or-step, xor-step, or-lt, xor-lt, and-lt}
 use lib.Pow.{pow-lt, pow-add, shl-shr, pow-pos, shr-shr}
 use lib.Dec.{eqb, ltb}
 use lib.ListN.{length, getD, set, length-set, replicate}
 use lib.Seq.{getD-set-same, getD-set-other}
 use Rattle.laws.specs.Choice.{pick}
 use Rattle.slots.specs.Slots.{words8}
-use Rattle.laws.specs.Digits.{bit, bit-and, bit-or, bit-xor, bit-pow-same, bit-pow-other, bit-suc, bit-zero, some-bit}
+use Rattle.laws.specs.Digits.{bit, bit-and, bit-or, bit-xor, bit-pow-same, bit-pow-other, differ-self, differ-zero, bit-suc, bit-zero, some-bit}
 
 -- what setting and clearing one digit does
 unfoldable pub on : ℕ → ℕ → ℕ
@@ -33,16 +33,6 @@ on-same w s = rw (bit-or, bit-pow-same) (omega arith)
 on-other : (w s i : ℕ) → (i ≡ s → ⊥) → bit (on w s) i ≡ bit w i
 unfolding on
 on-other w s i h = rw (bit-or, bit-pow-other s i h) (omega arith)
-
-differ-self : (a : ℕ) → a < 2 → differ a (min a 1) ≡ 0
-differ-self zero h = refl
-differ-self (suc zero) h = refl
-differ-self (suc (suc a)) h = absurd (omega arith)
-
-differ-zero : (a : ℕ) → a < 2 → differ a (min a 0) ≡ a
-differ-zero zero h = refl
-differ-zero (suc zero) h = refl
-differ-zero (suc (suc a)) h = absurd (omega arith)
 
 off-same : (w s : ℕ) → bit (off w s) s ≡ 0
 unfolding off

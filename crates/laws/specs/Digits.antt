@@ -33,6 +33,17 @@ differ-lt (suc (suc a)) b h g = absurd (omega arith)
 pub bit-xor : (a b i : ℕ) → bit (bitXor a b) i ≡ differ (bit a i) (bit b i)
 bit-xor a b i = rw (xor-shr, xor-step) (digits-mod _ (differ-lt (bit a i) (bit b i) (omega arith) (omega arith)))
 
+-- a digit taken from itself, and nothing taken from a digit
+pub differ-self : (a : ℕ) → a < 2 → differ a (min a 1) ≡ 0
+differ-self zero h = refl
+differ-self (suc zero) h = refl
+differ-self (suc (suc a)) h = absurd (omega arith)
+
+pub differ-zero : (a : ℕ) → a < 2 → differ a (min a 0) ≡ a
+differ-zero zero h = refl
+differ-zero (suc zero) h = refl
+differ-zero (suc (suc a)) h = absurd (omega arith)
+
 pub bit-pow-same : (s : ℕ) → bit (2 ^ s) s ≡ 1
 bit-pow-same s = let e = rw one-mul at (shl-shr 1 s) in rw e
 

@@ -1,5 +1,6 @@
 // How long the lent tables are, and where the signature, the slots in use and the terms stand in them (docs/TABLES.md).
 use laws::low;
+use laws::number_at;
 use laws::wide;
 use slots::SlotSet;
 ghost use mathlib.Core.Path.{_≡_};
@@ -86,7 +87,7 @@ pub fn signature(bytes: &[u8]) -> &[u8]
     requires { ⌜ 33538 ≤ length (now bytes) ⌝ }
     ensures { λ r. ⌜ now r ≡ signatureOf (now (bytes .entry)) ⌝ }
 {
-    let n = wide(bytes[0]) * 256 + wide(bytes[1]);
+    let n = number_at(bytes, 0);
     if 256 < n {
         return &bytes[0..0];
     }

@@ -1,9 +1,9 @@
 // Equal, instance and variant (document 01, 'The relations themselves'). The target's variables stand still: a pattern
 // variable's number is an index of the binding table and is never compared with a number of the target.
 use laws::low;
+use laws::number_at;
 use laws::wide;
 use terms::arity;
-use terms::item;
 ghost use mathlib.Core.Path.{_≡_};
 ghost use Prim.Native.Nat.{ℕ, suc, _+_, _-_, _/_, _≤_, _<_};
 ghost use lib.ListN.{length, getD, take, drop};
@@ -37,7 +37,7 @@ fn end_of(sig: &[u8], t: &[u8], j: usize) -> usize
     let mut opened: usize = 1;
     let mut i = j;
     while opened != 0 {
-        let c = item(t, 2 * i);
+        let c = number_at(t, 2 * i);
         opened = opened - 1 + arity(sig, c);
         i += 1;
     }
@@ -51,7 +51,7 @@ fn same(t: &[u8], a: usize, b: usize, n: usize) -> bool
 {
     let mut i: usize = 0;
     while i < n {
-        if item(t, 2 * (a + i)) != item(t, 2 * (b + i)) {
+        if number_at(t, 2 * (a + i)) != number_at(t, 2 * (b + i)) {
             return false;
         }
         i += 1;
@@ -77,9 +77,9 @@ fn step(sig: &[u8], pattern: &[u8], target: &[u8], tab: &mut [u8; 32], i: usize,
     requires { ⌜ Fine (now sig) (now pattern) × Fine (now sig) (now target) × (i < length (now pattern) / 2) × Going (now sig) (now pattern) (now target) (now tab) i j ⌝ }
     ensures { λ r. ⌜ Stepped (now (sig .entry)) (now (pattern .entry)) (now (target .entry)) (now (tab .entry)) (now (tab .exit)) i j r ⌝ }
 {
-    let c = item(pattern, 2 * i);
+    let c = number_at(pattern, 2 * i);
     if c < 32768 {
-        if item(target, 2 * j) != c {
+        if number_at(target, 2 * j) != c {
             return 0;
         }
         return j + 1;
@@ -115,10 +115,10 @@ fn meets(pattern: &[u8], target: &[u8], i: usize, j: usize) -> bool
     requires { ⌜ (i < length (now pattern) / 2) × (j < length (now target) / 2) ⌝ }
     ensures { λ r. ⌜ Met (now (pattern .entry)) (now (target .entry)) i j r ⌝ }
 {
-    if item(pattern, 2 * i) < 32768 {
+    if number_at(pattern, 2 * i) < 32768 {
         return true;
     }
-    32768 <= item(target, 2 * j)
+    32768 <= number_at(target, 2 * j)
 }
 
 // Whether some replacement of variables by variables turns the pattern into the target.

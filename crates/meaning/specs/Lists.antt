@@ -14,7 +14,8 @@ use Rattle.layout.specs.Layout.{usedOf, isUsed}
 use Rattle.definitions.specs.Spelt.{clash}
 use Rattle.definitions.specs.Store.{Store, slotsFrom, slotsWith, inUse, freeFrom, firstFree, listing}
 use Rattle.store.specs.Tables.{leastFrom, freeSlot}
-use Rattle.store.specs.Kept.{Words, has-others}
+use Rattle.slots.specs.Sets.{Words}
+use Rattle.store.specs.Kept.{has-others}
 
 -- two tests that are true together
 pub same-test : (b c : Bool) → (b ≡ true) ↔ (c ≡ true) → b ≡ c

@@ -2,9 +2,9 @@
 // An item's up is 0 at the root, else 1 + 8 * (its parent's item) + (its argument's number from 0).
 use laws::low;
 use laws::low16;
+use laws::number_at;
 use laws::wide16;
 use terms::arity;
-use terms::item;
 ghost use mathlib.Core.Path.{_≡_};
 ghost use mathlib.Core.List.{[], _∷_, _++_, map};
 ghost use Prim.Native.Nat.{ℕ, _+_, _-_, _*_, _/_, _≤_, _<_};
@@ -22,7 +22,7 @@ pub fn decode(t: &[u8], out: &mut [u16]) -> usize
     let n = t.len() / 2;
     let mut i: usize = 0;
     while i < n {
-        out[i] = low16(item(t, 2 * i));
+        out[i] = low16(number_at(t, 2 * i));
         i += 1;
     }
     n

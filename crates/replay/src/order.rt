@@ -1,4 +1,5 @@
 // What the field at a place of the log orders (document 01, 'The log program').
+use laws::number_at;
 use laws::wide;
 use log::Field;
 ghost use Prim.Native.Nat.{_≤_, _<_};
@@ -21,17 +22,10 @@ pub struct Task {
     pub end: usize,
 }
 
-// The number of two bytes, high first.
-fn pair(payload: &[u8]) -> usize
-    requires { ⌜ 2 ≤ length (now payload) ⌝ }
-{
-    wide(payload[0]) * 256 + wide(payload[1])
-}
-
 // Tag 3: exactly two bytes of slot.
 fn delete_order(payload: &[u8]) -> Order {
     if payload.len() == 2 {
-        return Order::Delete(pair(payload));
+        return Order::Delete(number_at(payload, 0));
     }
     Order::Nothing
 }
@@ -47,7 +41,7 @@ fn retrieve_order(payload: &[u8]) -> Order {
 // Tag 5: two bytes of slot, and a term.
 fn solve_order(payload: &[u8]) -> Order {
     if 2 <= payload.len() {
-        return Order::Solve(pair(payload));
+        return Order::Solve(number_at(payload, 0));
     }
     Order::Nothing
 }

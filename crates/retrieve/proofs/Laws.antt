@@ -11,7 +11,7 @@ use lib.Dec.{ltb, eqb}
 use lib.ListN.{length, getD, set, replicate, length-set}
 use lib.Seq.{sets}
 use Rattle.laws.specs.Choice.{pick}
-use Rattle.slots.specs.Slots.{has, inserted, members, listed, Next}
+use Rattle.slots.specs.Slots.{has, inserted, members, listed, listedInto, into-none, into-all, Next, next-above}
 use Rattle.slots.proofs.Laws.{has-insert-same, has-insert-other}
 use Rattle.terms.specs.Terms.{Signed, refusal}
 use Rattle.terms.specs.Refusals.{numberOf, checkedNumber}
@@ -104,7 +104,7 @@ module _ (bytes : List ℕ) (r : ℕ) (sig q cs ws : List ℕ) (slot : ℕ) (c :
     here = n .member;
     eight = rw e (size b);
     done = λ s l. done s l (decLt s slot) (ℕ-discrete s slot);
-    ahead = λ s l. rw e (later b s (omega (arith, l, n .above)));
+    ahead = λ s l. rw e (later b s (omega (arith, l, next-above cs (slot + 1) slot′ n (omega arith))));
   }
     where
       size : (b : Bool) → length (pick b (inserted ws slot) ws) ≡ 8
@@ -176,18 +176,18 @@ module _ (T : Tables) (r : ℕ) (q out : List ℕ) where
         answers-are : Answers (T .bytes) r (signatureOf (T .bytes)) q (candidatesOf T r q) ws
         answers-are = rw (← s, ← candidates-are) a
 
-        pub retrieving-room : (n : ℕ) → n ≡ length (members ws) → length out < 2 * n → Retrieving T r q out out (Retrieved.Refused Refusal.Room)
+        pub retrieving-room : (n : ℕ) (out′ : List ℕ) → n ≡ length (members ws) → length out < 2 * n → out′ ≡ listedInto ws out → Retrieving T r q out out′ (Retrieved.Refused Refusal.Room)
         unfolding retrieving
-        retrieving-room n f l =
+        retrieving-room n out′ f l w =
             let o : length out < 2 * length (members ws) = rw f at l in
-            record { answers = ws; exact = λ x y z. answers-are; is = rw (e, le-ltb 4 r h, eq-eqb _ 0 taken, lt-ltb _ _ o) }
+            record { answers = ws; exact = λ x y z. answers-are; is = rw (w, into-none ws out o, e, le-ltb 4 r h, eq-eqb _ 0 taken, lt-ltb _ _ o) }
 
-        pub retrieving-listed : (m n : ℕ) (out′ : List ℕ) → m ≡ length (members cs) → n ≡ length (members ws) → 2 * n ≤ length out → out′ ≡ sets out 0 (listed (members ws)) → Retrieving T r q out out′ (Retrieved.Listed m n)
+        pub retrieving-listed : (m n : ℕ) (out′ : List ℕ) → m ≡ length (members cs) → n ≡ length (members ws) → 2 * n ≤ length out → out′ ≡ listedInto ws out → Retrieving T r q out out′ (Retrieved.Listed m n)
         unfolding retrieving
         retrieving-listed m n out′ i f l w =
             let o : 2 * length (members ws) ≤ length out = rw f at l in
             let y : length (members cs) ≡ length (members (candidatesOf T r q)) = ap (λ (z : List ℕ). length (members z)) candidates-are in
-            record { answers = ws; exact = λ x y z. answers-are; is = rw (e, le-ltb 4 r h, eq-eqb _ 0 taken, le-ltb (length out) _ o, i, f, w, y) }
+            record { answers = ws; exact = λ x y z. answers-are; is = rw (e, le-ltb 4 r h, eq-eqb _ 0 taken, le-ltb (length out) _ o, i, f, w, into-all ws out o, y) }
 
 -- the ways out of solve
 module _ (T : Tables) (s : ℕ) (q : List ℕ) where

@@ -94,11 +94,10 @@ pub fn retrieve(
     let set = layout::slots_used(used);
     let candidates = candidates::candidates(link, label, s0, s1, s2, s3, sig, relation, q, set);
     let answers = confirmed(bytes, relation, sig, q, candidates);
-    let n = answers.size();
+    let n = answers.list(out);
     if out.len() < 2 * n {
         return Retrieved::Refused(Refusal::Room);
     }
-    answers.list(out);
     Retrieved::Listed(candidates.size(), n)
 }
 

@@ -122,7 +122,7 @@ module _ (ws : List ℕ) (from i s w z : ℕ) (l : i < 8) (h : s < 64) (e : w �
       let g : z ≡ trailingZeros 64 (getD ws i 0 / 2 ^ s) = f ∙ ap (trailingZeros 64) e in
       let b = next-inside ws i s h fits m in
       record {
-        above = omega arith;
+        above = λ q. omega arith;
         most = omega arith;
         member = λ q. rw g (next-member ws i s h fits m);
         none = λ x p q. go x p q m g (decLt x (i * 64 + s));

@@ -16,7 +16,7 @@ use lib.Seq.{sets, drop-cons, drop-drop, getD-drop}
 use Rattle.laws.specs.Choice.{pick}
 use Rattle.laws.specs.Digits.{bit}
 use Rattle.laws.proofs.Lists.{front-turn, front-start, front-end}
-use Rattle.slots.specs.Slots.{has, membersFrom, members, listed, Next}
+use Rattle.slots.specs.Slots.{has, membersFrom, members, listed, Next, next-above}
 
 -- the number of ones among the digits of a word
 unfoldable pub digits : ℕ → ℕ → ℕ
@@ -92,10 +92,11 @@ skip ws (suc d) from h n =
     let z : has ws from ≡ 1 → ⊥ = λ q. let o = n from (omega arith) (omega arith) in omega (arith, q, o) in
     rw (e, ne-eqb (has ws from) 1 z, f) (skip ws d (suc from) (omega arith) (λ x a b. n x (omega arith) (omega arith)))
 
-pub members-next : (ws : List ℕ) (from r : ℕ) → Next ws from r → membersFrom ws from (512 - from) ≡ membersFrom ws r (512 - r)
-members-next ws from r n =
-    let e : from + (r - from) ≡ r = omega (arith, n .above) in
-    rw e at (skip ws (r - from) from (omega (arith, n .above, n .most)) (λ x a b. n .none x a (omega (arith, n .above, b))))
+pub members-next : (ws : List ℕ) (from r : ℕ) → from ≤ 512 → Next ws from r → membersFrom ws from (512 - from) ≡ membersFrom ws r (512 - r)
+members-next ws from r h n =
+    let a = next-above ws from r n h in
+    let e : from + (r - from) ≡ r = omega (arith, a) in
+    rw e at (skip ws (r - from) from (omega (arith, a, n .most)) (λ x p q. n .none x p (omega (arith, a, q))))
 
 pub members-here : (ws : List ℕ) (r : ℕ) → r < 512 → has ws r ≡ 1 → membersFrom ws r (512 - r) ≡ r ∷ membersFrom ws (r + 1) (512 - (r + 1))
 unfolding membersFrom
@@ -129,7 +130,7 @@ pub list-start : (ws out : List ℕ) (r : ℕ) → Next ws 0 r → Listing ws ou
 list-start ws out r n = record {
   within = omega arith;
   same = refl;
-  rest = unfold members in (ap listed (members-next ws 0 r n));
+  rest = unfold members in (ap listed (members-next ws 0 r (omega arith) n));
   filled = front-start out (listed (members ws));
   here = n .member;
   most = n .most;
@@ -159,7 +160,7 @@ module _ (ws out out₀ : List ℕ) (at slot : ℕ) (l : Listing ws out out₀ a
       record {
         within = room;
         same = simp length-set (l .same);
-        rest = sym (drop-drop 2 at (listed (members ws))) ∙ ap (drop 2) ahead ∙ ap listed (members-next ws (slot + 1) r n);
+        rest = sym (drop-drop 2 at (listed (members ws))) ∙ ap (drop 2) ahead ∙ ap listed (members-next ws (slot + 1) r (omega arith) n);
         filled = rw z at two;
         here = n .member;
         most = n .most;

@@ -9,11 +9,11 @@ use native.Mathlib.Nat.{div-eq-of-lt, pow-suc}
 use native.Mathlib.Omega.{arith}
 use native.Mathlib.Decide.{ℕ-discrete}
 use borrow.Author.Tests.{eq-eqb, ne-eqb, eqb-true}
-use lib.Bits.{bitAnd, bitOr, differ}
-use lib.ListN.{length, getD, replicate}
+use lib.Bits.{bitAnd, bitOr}
+use lib.ListN.{length, getD, replicate, List·getD-eq-default}
 use lib.Pow.{pow-pos}
-use lib.Seq.{getD-set-same, getD-set-other}
-use Rattle.laws.specs.Digits.{bit, bit-and, bit-or, bit-xor, bit-pow-same, bit-pow-other, bit-suc, bit-zero, some-bit}
+use lib.Seq.{getD-set-same, getD-set-other, set-out}
+use Rattle.laws.specs.Digits.{bit, bit-and, bit-or, bit-xor, bit-pow-same, bit-pow-other, differ-self, differ-zero, bit-suc, bit-zero, some-bit}
 use Rattle.laws.specs.Members.{In, NoDup}
 use Rattle.slots.specs.Slots.{has, inserted, removed, both, either, others, words8, noneIn, membersFrom, members}
 
@@ -36,6 +36,19 @@ bit-none i = rw (div-eq-of-lt (pow-pos i))
 pub has-empty : (s : ℕ) → s < 512 → has (replicate 8 0) s ≡ 0
 unfolding has
 has-empty s h = rw (getD-same 8 0 (s / 64) (omega arith)) (bit-none (s % 64))
+
+-- no number above 511 is a slot: it is in no set, and an insert or a remove of it leaves the set
+pub has-beyond : (ws : List ℕ) (s : ℕ) → length ws ≡ 8 → 512 ≤ s → has ws s ≡ 0
+unfolding has
+has-beyond ws s e h = rw (List·getD-eq-default ws 0 {n = s / 64} (omega arith)) (bit-none (s % 64))
+
+pub insert-beyond : (ws : List ℕ) (s : ℕ) → length ws ≡ 8 → 512 ≤ s → inserted ws s ≡ ws
+unfolding inserted
+insert-beyond ws s e h = set-out ws (s / 64) _ (omega arith)
+
+pub remove-beyond : (ws : List ℕ) (s : ℕ) → length ws ≡ 8 → 512 ≤ s → removed ws s ≡ ws
+unfolding removed
+remove-beyond ws s e h = set-out ws (s / 64) _ (omega arith)
 
 -- the complement of a word, digit by digit
 pub bit-not : (k w i : ℕ) → w < 2 ^ k → i < k → bit ((2 ^ k - 1) - w) i ≡ 1 - bit w i
@@ -73,16 +86,6 @@ has-insert-other ws s x n h = go (ℕ-discrete (x / 64) (s / 64))
     go : Dec (x / 64 ≡ s / 64) → has (inserted ws s) x ≡ has ws x
     go (yes e) = rw (e, getD-set-same ws (s / 64) _ 0 k, bit-or, bit-pow-other (s % 64) (x % 64) (omega (arith, e))) (omega arith)
     go (no d) = rw (getD-set-other ws (s / 64) (x / 64) _ 0 d)
-
-differ-self : (a : ℕ) → a < 2 → differ a (min a 1) ≡ 0
-differ-self zero h = refl
-differ-self (suc zero) h = refl
-differ-self (suc (suc a)) h = absurd (omega arith)
-
-differ-zero : (a : ℕ) → a < 2 → differ a (min a 0) ≡ a
-differ-zero zero h = refl
-differ-zero (suc zero) h = refl
-differ-zero (suc (suc a)) h = absurd (omega arith)
 
 -- a remove takes its slot out, and leaves each other as it was
 pub has-removed-same : (ws : List ℕ) (s : ℕ) → s < 64 * length ws → has (removed ws s) s ≡ 0

@@ -1,10 +1,12 @@
 -- Document 01, 'Store' and 'Paths and keys': a set of slots as eight words, slot s in word s / 64 at weight 2^(s mod 64).
-use Prim.Native.Nat.{ℕ, zero, suc, _-_, _/_, _%_, _^_, _≤_, _<_}
-use mathlib.Core.Path.{_≡_}
+use Prim.Native.Nat.{ℕ, zero, suc, _-_, _*_, _/_, _%_, _^_, _≤_, _<_}
+use mathlib.Core.Path.{_≡_, refl}
 use mathlib.Core.List.{List, [], _∷_}
 use mathlib.Core.Bool.{Bool}
-use lib.ListN.{getD, set}
-use lib.Dec.{eqb}
+use lib.ListN.{length, getD, set}
+use lib.Seq.{sets}
+use lib.Dec.{eqb, ltb}
+use borrow.Author.Tests.{lt-ltb, le-ltb}
 use lib.Bits.{bitAnd, bitOr, bitXor}
 use native.Mathlib.Omega.{arith}
 use native.Mathlib.Decide.{decLt}
@@ -44,10 +46,17 @@ noneIn us =
 
 -- r is the least slot of the set at or after from, or 512 where there is none
 pub record Next (ws : List ℕ) (from r : ℕ) : Type 0 where
-  pub above : from ≤ r
+  pub above : r < 512 → from ≤ r
   pub most : r ≤ 512
   pub member : r < 512 → has ws r ≡ 1
   pub none : (x : ℕ) → from ≤ x → x < r → has ws x ≡ 0
+
+pub next-above : (ws : List ℕ) (from r : ℕ) → Next ws from r → from ≤ 512 → from ≤ r
+next-above ws from r n h = go (decLt r 512)
+  where
+    go : Dec (r < 512) → from ≤ r
+    go (yes l) = n .above l
+    go (no l) = omega arith
 
 -- it leaves one number
 pub next-one : (ws : List ℕ) (from a b : ℕ) → Next ws from a → Next ws from b → a ≡ b
@@ -56,7 +65,7 @@ next-one ws from a b h k = go (decLt a b) (decLt b a)
     below : (r q : ℕ) → Next ws from r → Next ws from q → r < q → ⊥
     below r q m n l =
         let one = m .member (omega (arith, n .most)) in
-        let none = n .none r (m .above) l in
+        let none = n .none r (m .above (omega (arith, n .most))) l in
         omega (arith, one, none)
 
     go : Dec (a < b) → Dec (b < a) → a ≡ b
@@ -77,3 +86,15 @@ members ws = membersFrom ws 0 512
 unfoldable pub listed : List ℕ → List ℕ
 listed [] = []
 listed (s ∷ ss) = s / 256 ∷ s % 256 ∷ listed ss
+
+-- a buffer after the listing of a set: as it was where that does not fit
+unfoldable pub listedInto : List ℕ → List ℕ → List ℕ
+listedInto ws out = pick (ltb (length out) (2 * length (members ws))) out (sets out 0 (listed (members ws)))
+
+pub into-none : (ws out : List ℕ) → length out < 2 * length (members ws) → listedInto ws out ≡ out
+unfolding listedInto
+into-none ws out h = rw (lt-ltb (length out) (2 * length (members ws)) h)
+
+pub into-all : (ws out : List ℕ) → 2 * length (members ws) ≤ length out → listedInto ws out ≡ sets out 0 (listed (members ws))
+unfolding listedInto
+into-all ws out h = rw (le-ltb (length out) (2 * length (members ws)) h)

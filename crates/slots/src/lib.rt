@@ -7,7 +7,7 @@ ghost use lib.Count.{ones, trailingZeros};
 ghost use lib.Dec.{eqb};
 ghost use lib.ListN.{length, getD, set, replicate};
 ghost use lib.Seq.{sets};
-ghost use Rattle.slots.specs.Slots.{has, inserted, removed, both, either, others, members, listed, noneIn, Next};
+ghost use Rattle.slots.specs.Slots.{has, inserted, removed, both, either, others, members, listed, listedInto, noneIn, Next};
 
 pub struct SlotSet {
     pub words: [u64; 8],
@@ -54,30 +54,39 @@ impl SlotSet {
         }
     }
 
+    // Is slot s in the set; no number above 511 is.
     pub fn contains(self, s: usize) -> bool
-        requires { ⌜ s < 512 ⌝ }
         ensures { λ r. ⌜ r ≡ eqb (has (self .words) s) 1 ⌝ }
     {
+        if Self::CAPACITY <= s {
+            return false;
+        }
         let k = s / 64;
         let w = self.words[k];
         let b = w >> (s % 64);
         b % 2 == 1
     }
 
+    // The set with slot s too; as it was for a number above 511.
     pub fn insert(mut self, s: usize) -> SlotSet
-        requires { ⌜ s < 512 ⌝ }
         ensures { λ r. ⌜ r .words ≡ inserted (self .words) s ⌝ }
     {
+        if Self::CAPACITY <= s {
+            return self;
+        }
         let k = s / 64;
         let w = self.words[k];
         self.words[k] = w | (1u64 << (s % 64));
         self
     }
 
+    // The set without slot s.
     pub fn remove(mut self, s: usize) -> SlotSet
-        requires { ⌜ s < 512 ⌝ }
         ensures { λ r. ⌜ r .words ≡ removed (self .words) s ⌝ }
     {
+        if Self::CAPACITY <= s {
+            return self;
+        }
         let k = s / 64;
         let w = self.words[k];
         self.words[k] = w ^ (w & (1u64 << (s % 64)));
@@ -147,7 +156,6 @@ impl SlotSet {
 
     // The least slot of the set at or after `from`, or 512.
     pub fn next(self, from: usize) -> usize
-        requires { ⌜ from ≤ 512 ⌝ }
         ensures { λ r. ⌜ Next (self .words) from r ⌝ }
     {
         let mut i = from / 64;
@@ -170,8 +178,8 @@ impl SlotSet {
         self.next(0)
     }
 
-    // Writes the slots, ascending, two bytes each, high byte first (document 01, 'Numbers of refusal').
-    pub fn list(self, out: &mut [u8])
+    // The slots, ascending, two bytes each, high byte first (document 01, 'Numbers of refusal').
+    fn write(self, out: &mut [u8])
         requires { ⌜ 2 * length (members (self .words)) ≤ length (now out) ⌝ }
         ensures { λ _. ⌜ now (out .exit) ≡ sets (now (out .entry)) 0 (listed (members (self .words))) ⌝ }
     {
@@ -183,5 +191,17 @@ impl SlotSet {
             at += 2;
             slot = self.next(slot + 1);
         }
+    }
+
+    // Writes the listing where there is room for it, and else nothing; the number of slots.
+    pub fn list(self, out: &mut [u8]) -> usize
+        ensures { λ r. ⌜ (r ≡ length (members (self .words))) × (r ≤ 512) × (now (out .exit) ≡ listedInto (self .words) (now (out .entry))) ⌝ }
+    {
+        let n = self.size();
+        if out.len() < 2 * n {
+            return n;
+        }
+        self.write(out);
+        n
     }
 }

@@ -10,7 +10,7 @@ use lib.Dec.{ltb, eqb}
 use lib.ListN.{length, take}
 use lib.Seq.{sets}
 use Rattle.laws.specs.Choice.{pick}
-use Rattle.slots.specs.Slots.{has, inserted, removed, others, members, listed, Next}
+use Rattle.slots.specs.Slots.{has, inserted, removed, others, members, listed, listedInto, into-none, into-all, Next, next-above}
 use Rattle.terms.specs.declared.Refusal.{Refusal}
 use Rattle.terms.specs.declared.Refusal.the-variants.{Table, Signature, Relation, Slot, Size, Odd, Symbol, Shape, Key, Argument, Full, Keys, Nothing, Long, Room, Log}
 use Rattle.terms.specs.declared.Checked.{Checked}
@@ -48,7 +48,7 @@ positive Log e = omega arith
 -- the least slot
 least-is : (k : ℕ) (ws : List ℕ) (from r : ℕ) → from + k ≡ 512 → Next ws from r → r ≡ leastFrom ws from k
 unfolding leastFrom
-least-is zero ws from r e n = let a = n .above in let b = n .most in omega arith
+least-is zero ws from r e n = let a = next-above ws from r n (omega arith) in let b = n .most in omega arith
 least-is (suc k) ws from r e n = go (ℕ-discrete (has ws from) 1) (least-is k ws (suc from) r (omega arith))
   where
     go : Dec (has ws from ≡ 1) → (Next ws (suc from) r → r ≡ leastFrom ws (suc from) k) → r ≡ pick (eqb (has ws from) 1) from (leastFrom ws (suc from) k)
@@ -56,9 +56,9 @@ least-is (suc k) ws from r e n = go (ℕ-discrete (has ws from) 1) (least-is k w
       where
         same : Dec (from < r) → r ≡ from
         same (yes l) = absurd (let z = n .none from (omega arith) l in omega (arith, z))
-        same (no l) = let a = n .above in omega arith
+        same (no l) = let a = next-above ws from r n (omega arith) in omega arith
     go (no h) ih = rw (ne-eqb (has ws from) 1 h) (ih (record {
-      above = over (ℕ-discrete r from);
+      above = λ l. over (ℕ-discrete r from);
       most = n .most;
       member = n .member;
       none = λ x p q. n .none x (omega arith) q;
@@ -66,7 +66,7 @@ least-is (suc k) ws from r e n = go (ℕ-discrete (has ws from) 1) (least-is k w
       where
         over : Dec (r ≡ from) → suc from ≤ r
         over (yes p) = absurd (h (rw p at (n .member (omega arith))))
-        over (no p) = let a = n .above in omega arith
+        over (no p) = let a = next-above ws from r n (omega arith) in omega arith
 
 pub free-slot : (u ws vs : List ℕ) (s : ℕ) → ws ≡ usedOf u → vs ≡ others ws → Next vs 0 s → s ≡ freeSlot u
 unfolding freeSlot
@@ -185,22 +185,22 @@ slots-are : (T : Tables) (k ws vs : List ℕ) (m : ℕ) → m ≡ keyNumber (T .
 unfolding slotsWith
 slots-are T k ws vs m e f g = rw (g, f, e)
 
-pub ask-room : (T : Tables) (sig k out ws vs : List ℕ) (m n : ℕ) (r : Bool) → ample T ≡ true → sig ≡ signatureOf (T .bytes) → r ≡ isKey sig k → r ≡ true
+pub ask-room : (T : Tables) (sig k out out′ ws vs : List ℕ) (m n : ℕ) (r : Bool) → ample T ≡ true → sig ≡ signatureOf (T .bytes) → r ≡ isKey sig k → r ≡ true
     → m ≡ keyNumber (T .link) (T .label) k → ws ≡ usedOf (T .used) → vs ≡ met (four (T .s0) (T .s1) (T .s2) (T .s3)) m ws → n ≡ length (members vs) → length out < 2 * n
-    → listing 15 0 out ≡ asking T k out
+    → out′ ≡ listedInto vs out → listing 15 0 out′ ≡ asking T k out
 unfolding asking
-ask-room T sig k out ws vs m n r a g e f x y w h l =
+ask-room T sig k out out′ ws vs m n r a g e f x y w h l o =
     let z : isKey (signatureOf (T .bytes)) k ≡ true = rw g at (sym e ∙ f) in
     let v = slots-are T k ws vs m x y w in
     let u : ltb (length out) (2 * length (members (slotsWith T k))) ≡ true = lt-ltb (length out) (2 * length (members (slotsWith T k))) (rw (h, v) at l) in
-    rw (a, z, u)
+    rw (a, z, u, o, into-none vs out (rw h at l))
 
 pub ask-done : (T : Tables) (sig k out out′ ws vs : List ℕ) (m n : ℕ) (r : Bool) → ample T ≡ true → sig ≡ signatureOf (T .bytes) → r ≡ isKey sig k → r ≡ true
     → m ≡ keyNumber (T .link) (T .label) k → ws ≡ usedOf (T .used) → vs ≡ met (four (T .s0) (T .s1) (T .s2) (T .s3)) m ws → n ≡ length (members vs) → 2 * n ≤ length out
-    → out′ ≡ sets out 0 (listed (members vs)) → listing 0 n out′ ≡ asking T k out
+    → out′ ≡ listedInto vs out → listing 0 n out′ ≡ asking T k out
 unfolding asking
 ask-done T sig k out out′ ws vs m n r a g e f x y w h l o =
     let z : isKey (signatureOf (T .bytes)) k ≡ true = rw g at (sym e ∙ f) in
     let v = slots-are T k ws vs m x y w in
     let u : ltb (length out) (2 * length (members (slotsWith T k))) ≡ false = le-ltb (length out) (2 * length (members (slotsWith T k))) (rw (h, v) at l) in
-    rw (a, z, u, o, h, v)
+    rw (a, z, u, o, into-all vs out (rw h at l), h, v)

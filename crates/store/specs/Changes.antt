@@ -83,13 +83,13 @@ digit ws x q = omega arith
 
 least-next : (k : ℕ) (ws : List ℕ) (from : ℕ) → from + k ≡ 512 → Next ws from (leastFrom ws from k)
 unfolding leastFrom
-least-next zero ws from e = record { above = omega arith; most = omega arith; member = λ h. absurd (omega arith); none = λ x a b. absurd (omega arith) }
+least-next zero ws from e = record { above = λ h. omega arith; most = omega arith; member = λ h. absurd (omega arith); none = λ x a b. absurd (omega arith) }
 least-next (suc k) ws from e = go (ℕ-discrete (has ws from) 1) (least-next k ws (suc from) (omega arith))
   where
     go : Dec (has ws from ≡ 1) → Next ws (suc from) (leastFrom ws (suc from) k) → Next ws from (pick (eqb (has ws from) 1) from (leastFrom ws (suc from) k))
-    go (yes h) n = rw (eq-eqb (has ws from) 1 h) (record { above = omega arith; most = omega arith; member = λ l. h; none = λ x a b. absurd (omega arith) })
+    go (yes h) n = rw (eq-eqb (has ws from) 1 h) (record { above = λ l. omega arith; most = omega arith; member = λ l. h; none = λ x a b. absurd (omega arith) })
     go (no h) n = rw (ne-eqb (has ws from) 1 h) (record {
-      above = (let a = n .above in omega arith);
+      above = λ l. (let a = n .above l in omega arith);
       most = n .most;
       member = n .member;
       none = λ x a b. first x a b (ℕ-discrete x from);

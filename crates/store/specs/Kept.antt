@@ -8,11 +8,12 @@ use native.Mathlib.Decide.{ℕ-discrete, decLt}
 use native.Mathlib.Nat.{mod-eq-of-lt}
 use borrow.Author.Tests.{le-ltb, le-leb, ltb-false}
 use lib.Dec.{ltb}
-use lib.Bits.{bitAnd, bitOr, bitXor, differ, or-lt, xor-lt, and-lt}
+use lib.Bits.{bitAnd, bitOr, bitXor, or-lt, xor-lt, and-lt}
 use lib.ListN.{length, getD, set, take, drop, replicate, length-take, length-drop, length-set, length-replicate, List·getD-append}
 use lib.Pow.{pow-lt}
 use lib.Seq.{sets, length-sets, ext-getD, getD-take, getD-drop, getD-set-same, getD-set-other}
-use Rattle.laws.specs.Digits.{bit, bit-and, bit-xor, bit-pow-same, bit-pow-other}
+use Rattle.laws.specs.Digits.{bit}
+use Rattle.slots.specs.Sets.{Words, has-removed-same, has-removed-other}
 use Rattle.slots.specs.Slots.{has, inserted, removed, words8, others}
 use Rattle.slots.proofs.Laws.{getD-words8, has-insert-same, has-insert-other, bit-not}
 use Rattle.terms.specs.Terms.{Signed}
@@ -166,37 +167,6 @@ word-used : (u : List ℕ) (i : ℕ) → i < 8 → getD (usedOf u) i 0 ≡ getD 
 unfolding usedOf
 word-used u i h = getD-words8 (λ j. getD u j 0) i h
 
-differ-self : (a : ℕ) → a < 2 → differ a (min a 1) ≡ 0
-differ-self zero h = refl
-differ-self (suc zero) h = refl
-differ-self (suc (suc a)) h = absurd (omega arith)
-
-differ-zero : (a : ℕ) → a < 2 → differ a (min a 0) ≡ a
-differ-zero zero h = refl
-differ-zero (suc zero) h = refl
-differ-zero (suc (suc a)) h = absurd (omega arith)
-
-pub has-remove-same : (ws : List ℕ) (s : ℕ) → s < 64 * length ws → has (removed ws s) s ≡ 0
-unfolding has removed
-has-remove-same ws s h =
-    let k : s / 64 < length ws = omega arith in
-    rw (getD-set-same ws (s / 64) _ 0 k, bit-xor, bit-and, bit-pow-same) (differ-self (bit (getD ws (s / 64) 0) (s % 64)) (omega arith))
-
-pub has-remove-other : (ws : List ℕ) (s x : ℕ) → (x ≡ s → ⊥) → s < 64 * length ws → has (removed ws s) x ≡ has ws x
-unfolding has removed
-has-remove-other ws s x n h = go (ℕ-discrete (x / 64) (s / 64))
-  where
-    k : s / 64 < length ws
-    k = omega arith
-
-    go : Dec (x / 64 ≡ s / 64) → has (removed ws s) x ≡ has ws x
-    go (yes e) = rw (e, getD-set-same ws (s / 64) _ 0 k, bit-xor, bit-and, bit-pow-other (s % 64) (x % 64) (omega (arith, e))) (differ-zero (bit (getD ws (s / 64) 0) (x % 64)) (omega arith))
-    go (no d) = rw (getD-set-other ws (s / 64) (x / 64) _ 0 d)
-
--- eight words of 64 digits
-abbrev pub Words : List ℕ → Type 0
-Words u = (i : ℕ) → i < 8 → getD u i 0 < 2 ^ 64
-
 module _ (u : List ℕ) (s : ℕ) (l : 8 ≤ length u) (h : s < 512) (w : Words u) where
   at : s < 64 * length (usedOf u)
   at = omega (arith, length-used u)
@@ -214,10 +184,10 @@ module _ (u : List ℕ) (s : ℕ) (l : 8 ≤ length u) (h : s < 512) (w : Words 
   insert-other x g n = used-has u (inserted (usedOf u) s) x l g ∙ has-insert-other (usedOf u) s x n at
 
   pub remove-same : has (usedOf (sets u 0 (usedOf (removed (usedOf u) s)))) s ≡ 0
-  remove-same = used-has u (removed (usedOf u) s) s l h ∙ has-remove-same (usedOf u) s at
+  remove-same = used-has u (removed (usedOf u) s) s l h ∙ has-removed-same (usedOf u) s at
 
   pub remove-other : (x : ℕ) → x < 512 → (x ≡ s → ⊥) → has (usedOf (sets u 0 (usedOf (removed (usedOf u) s)))) x ≡ has (usedOf u) x
-  remove-other x g n = used-has u (removed (usedOf u) s) x l g ∙ has-remove-other (usedOf u) s x n at
+  remove-other x g n = used-has u (removed (usedOf u) s) x l g ∙ has-removed-other (usedOf u) s x n at
 
   word-set : (v : ℕ) → v < 2 ^ 64 → Words (sets u 0 (usedOf (set (usedOf u) k v)))
   word-set v f i g = rw (used-word u (set (usedOf u) k v) i l g) (go (ℕ-discrete i k))

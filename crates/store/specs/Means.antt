@@ -25,7 +25,8 @@ use Rattle.layout.proofs.Laws.{length-blank, length-signed}
 use Rattle.layout.specs.Tables.{Tables, ample}
 use Rattle.store.specs.Tables.{indexOf, freed, openedWith}
 use Rattle.store.specs.Links.{freed-length, freed-next, freed-none, freed-first}
-use Rattle.store.specs.Kept.{Words, signed-signature, has-used, blank-low, long-is}
+use Rattle.slots.specs.Sets.{Words}
+use Rattle.store.specs.Kept.{signed-signature, has-used, blank-low, long-is}
 
 -- a store: what each slot holds, as bytes
 abbrev pub Slots : Type 0

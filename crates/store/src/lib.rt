@@ -3,12 +3,12 @@ use chains::find;
 use chains::free_all;
 use chains::roomy;
 use laws::low16;
+use laws::number_at;
 use layout::clear32;
 use layout::clear64;
 use layout::long_enough;
 use terms::Checked;
 use terms::Refusal;
-use terms::item;
 use walks::label_of;
 ghost use mathlib.Core.Path.{_≡_};
 ghost use Prim.Native.Nat.{ℕ, _+_, _-_, _*_, _/_, _≤_, _<_};
@@ -283,14 +283,14 @@ fn key_number(link: &[u16], label: &[u32], key: &[u8]) -> usize
     let mut place: u32 = 32776;
     let mut rest = key;
     while 2 < rest.len() {
-        let k = find(link, label, label_of(place, low16(item(rest, 0))));
+        let k = find(link, label, label_of(place, low16(number_at(rest, 0))));
         place = walks::place_of(k, rest[2]);
         rest = &rest[3..];
     }
     if rest.len() != 2 {
         return 4096;
     }
-    find(link, label, label_of(place, end_number(item(rest, 0))))
+    find(link, label, label_of(place, end_number(number_at(rest, 0))))
 }
 
 // The slots in use whose term has the key.
@@ -316,10 +316,9 @@ pub fn with_key(
     }
     let k = key_number(link, label, key);
     let set = bank::meet(s0, s1, s2, s3, k, layout::slots_used(used));
-    let n = set.size();
+    let n = set.list(out);
     if out.len() < 2 * n {
         return Listed::Refused(Refusal::Room);
     }
-    set.list(out);
     Listed::Slots(n)
 }

@@ -1,4 +1,5 @@
 // The signature check, the term check and the argument of a term (document 01, 'Term bytes').
+use laws::number_at;
 use laws::wide;
 ghost use mathlib.Core.Path.{_≡_};
 ghost use Prim.Native.Nat.{_+_, _-_, _*_, _≤_, _<_, min};
@@ -79,16 +80,6 @@ pub fn arity(sig: &[u8], x: usize) -> usize
     if x < sig.len() { wide(sig[x]) } else { 0 }
 }
 
-// The item whose bytes start at `at`.
-pub fn item(t: &[u8], at: usize) -> usize
-    requires { ⌜ at + 1 < length (now t) ⌝ }
-    ensures { λ r. ⌜ (r ≡ getD (now (t .entry)) at 0 * 256 + getD (now (t .entry)) (at + 1) 0) × (r < 65536) ⌝ }
-{
-    let h = wide(t[at]);
-    let l = wide(t[at + 1]);
-    h * 256 + l
-}
-
 // The bytes that the term at the start of `t` takes up, or one more than there are.
 fn walk(sig: &[u8], t: &[u8], levels: usize) -> usize
     requires { ⌜ length (now t) ≤ 2 * levels ⌝ }
@@ -97,7 +88,7 @@ fn walk(sig: &[u8], t: &[u8], levels: usize) -> usize
     if t.len() < 2 {
         return t.len() + 1;
     }
-    let a = arity(sig, item(t, 0));
+    let a = arity(sig, number_at(t, 0));
     let mut used: usize = 2;
     let mut i: usize = 0;
     while i < a {
@@ -130,7 +121,7 @@ fn items_good(n: usize, t: &[u8]) -> bool
 {
     let mut rest = t;
     while 2 <= rest.len() {
-        let x = item(rest, 0);
+        let x = number_at(rest, 0);
         if !declared(n, x) {
             return false;
         }
@@ -197,7 +188,7 @@ pub fn is_term(sig: &[u8], t: &[u8]) -> bool
         if opened == 0 {
             return false;
         }
-        opened = opened - 1 + brings(sig, item(t, at));
+        opened = opened - 1 + brings(sig, number_at(t, at));
         at += 2;
     }
     opened == 0
@@ -247,7 +238,7 @@ pub fn check_argument(sig: &[u8], t: &[u8], i: usize) -> Checked
     if i == 0 {
         return Checked::Refused(Refusal::Argument);
     }
-    if arity(sig, item(t, 0)) < i {
+    if arity(sig, number_at(t, 0)) < i {
         return Checked::Refused(Refusal::Argument);
     }
     Checked::Good

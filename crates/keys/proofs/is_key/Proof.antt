@@ -56,8 +56,8 @@ returns-3 : tie.Need-returns-3 Inv-loop μ-loop
 unfolding isKey
 returns-3 c = let l = (c .before .before .loop) in simp (le-ltb _ _ ((c .before .before .before .if1) .left)) (sym (l .inv ∙ steps-short _ (l .rest .now) (omega arith) ((c .if3) .taken)))
 
-item-requires : tie.Need-item-requires Inv-loop μ-loop
-item-requires c κs = omega arith
+number-at-requires : tie.Need-number-at-requires Inv-loop μ-loop
+number-at-requires c κs = omega arith
 
 end-good-requires : tie.Need-end-good-requires Inv-loop μ-loop
 end-good-requires c κs = search needs
@@ -65,7 +65,7 @@ end-good-requires c κs = search needs
 returns-4 : tie.Need-returns-4 Inv-loop μ-loop
 unfolding isKey
 returns-4 c = let l = (c .before .before .before .before .loop) in
-    let e = (c .end-good) .ensures ∙ ap (endGood _) ((c .before .item) .ensures .0) in
+    let e = (c .end-good) .ensures ∙ ap (endGood _) ((c .before .number-at) .ensures .0) in
     simp (le-ltb _ _ ((c .before .before .before .before .before .if1) .left)) (e ∙ sym (l .inv ∙ steps-end _ (l .rest .now) ((c .before .before .if3) .left)))
 
 pub is-key-spec : {M : Type 1} → statement M
@@ -84,6 +84,6 @@ is-key-spec =
     loop-less
     loop-again
     returns-3
-    item-requires
+    number-at-requires
     end-good-requires
     returns-4)

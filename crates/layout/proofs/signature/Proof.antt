@@ -1,29 +1,10 @@
-use mathlib.Core.Path.{_≡_, refl, sym, ap, _∙_}
-use native.Mathlib.Omega.{arith}
-use lib.ListN.{getD}
-use Prim.Native.Nat.{_+_, _*_}
-use Rattle.layout.proofs.Laws.{sig-none, sig-bad, sig-fine}
 use borrow.Author.Needs.{needs}
+use Rattle.layout.proofs.Laws.{sig-none, sig-bad, sig-fine}
 use Rattle.layout.proofs.signature.Statement.{statement}
 use Rattle.layout.proofs.signature.Tie as tie
 
-shared-slice-read-wide : tie.Need-shared-slice-read-wide
-shared-slice-read-wide c = search needs
-
-wide-requires : tie.Need-wide-requires
-wide-requires c κs = search needs
-
-mul-n : tie.Need-mul-n
-mul-n c = search needs
-
-shared-slice-read-wide-2 : tie.Need-shared-slice-read-wide-2
-shared-slice-read-wide-2 c = search needs
-
-wide-requires-2 : tie.Need-wide-requires-2
-wide-requires-2 c κs = search needs
-
-add-n : tie.Need-add-n
-add-n c = search needs
+number-at-requires : tie.Need-number-at-requires
+number-at-requires c κs = search needs
 
 sub-result : tie.Need-sub-result
 sub-result c = search needs
@@ -35,9 +16,7 @@ part-result-end : tie.Need-part-result-end
 part-result-end c = search needs
 
 returns : tie.Need-returns
-returns c = let b = (c .before .before .before .before .before .before .before) .args .bytes .now in
-    let e : (c .before .before .before .before .wide) .result * 256 + (c .before .before .wide2) .result ≡ getD b 0 0 * 256 + getD b 1 0 = omega (arith, (c .before .before .before .before .wide) .ensures .0, (c .before .before .wide2) .ensures .0) in
-    sig-none b _ e ((c .before .if1) .taken)
+returns c = sig-none _ _ ((c .before .before .number-at) .ensures .0) ((c .before .if1) .taken)
 
 add-end : tie.Need-add-end
 add-end c = search needs
@@ -64,9 +43,7 @@ part-result-end-2 : tie.Need-part-result-end-2
 part-result-end-2 c = search needs
 
 returns-2 : tie.Need-returns-2
-returns-2 c = let b = (c .before .before .before .before .before .before .before .before .before .before) .args .bytes .now in
-    let e : (c .before .before .before .before .before .before .before .wide) .result * 256 + (c .before .before .before .before .before .wide2) .result ≡ getD b 0 0 * 256 + getD b 1 0 = omega (arith, (c .before .before .before .before .before .before .before .wide) .ensures .0, (c .before .before .before .before .before .wide2) .ensures .0) in
-    sig-bad b _ e ((c .before .before .before .before .if1) .left) _ ((c .before .before .largest) .ensures) ((c .before .if2) .taken)
+returns-2 c = sig-bad _ _ ((c .before .before .before .before .before .number-at) .ensures .0) ((c .before .before .before .before .if1) .left) _ ((c .before .before .largest) .ensures) ((c .before .if2) .taken)
 
 sub-result-3 : tie.Need-sub-result-3
 sub-result-3 c = search needs
@@ -78,20 +55,13 @@ part-result-end-3 : tie.Need-part-result-end-3
 part-result-end-3 c = search needs
 
 returns-3 : tie.Need-returns-3
-returns-3 c = let b = (c .before .before .before .before .before .before .before .before .before .before) .args .bytes .now in
-    let e : (c .before .before .before .before .before .before .before .wide) .result * 256 + (c .before .before .before .before .before .wide2) .result ≡ getD b 0 0 * 256 + getD b 1 0 = omega (arith, (c .before .before .before .before .before .before .before .wide) .ensures .0, (c .before .before .before .before .before .wide2) .ensures .0) in
-    sig-fine b _ e ((c .before .before .before .before .if1) .left) _ ((c .before .before .largest) .ensures) ((c .before .if2) .left)
+returns-3 c = sig-fine _ _ ((c .before .before .before .before .before .number-at) .ensures .0) ((c .before .before .before .before .if1) .left) _ ((c .before .before .largest) .ensures) ((c .before .if2) .left)
 
 pub signature-spec : {M : Type 1} → statement M
 signature-spec =
     tie.close
     (tie.spec
-    shared-slice-read-wide
-    wide-requires
-    mul-n
-    shared-slice-read-wide-2
-    wide-requires-2
-    add-n
+    number-at-requires
     sub-result
     part-result-start
     part-result-end

@@ -25,11 +25,11 @@ loop-holds c = let a = (c .before .before) .args in
       omega arith,
     )
 
-mul-item : tie.Need-mul-item Inv-loop μ-loop
-mul-item c = omega (arith, low (c .before), (c .loop-test) .taken)
+mul-number-at : tie.Need-mul-number-at Inv-loop μ-loop
+mul-number-at c = omega (arith, low (c .before), (c .loop-test) .taken)
 
-item-requires : tie.Need-item-requires Inv-loop μ-loop
-item-requires c κs = omega (arith, low (c .before), (c .loop-test) .taken)
+number-at-requires : tie.Need-number-at-requires Inv-loop μ-loop
+number-at-requires c κs = omega (arith, low (c .before), (c .loop-test) .taken)
 
 sub-opened : tie.Need-sub-opened Inv-loop μ-loop
 sub-opened c = omega arith
@@ -53,7 +53,7 @@ loop-again c = let a = (c .before .before .before .before .before .before) .args
     let l = (c .before .before .before) .loop in
     let b : l .i < length t / 2 = omega (arith, low (c .before .before .before), (c .before .before .loop-test) .taken) in
     let e : (c .arity) .result ≡ extra sig (getD (codes 0 t) (l .i) 0)
-    = (c .arity) .ensures .0 ∙ ap (λ (k : ℕ). getD sig k 0) ((c .before .item) .ensures .0 ∙ sym (codes-at t (l .i) b)) ∙ sym (extra-arity sig ((c .before .before .before .before .before .before) .pre .0 .sized) (getD (codes 0 t) (l .i) 0)) in
+    = (c .arity) .ensures .0 ∙ ap (λ (k : ℕ). getD sig k 0) ((c .before .number-at) .ensures .0 ∙ sym (codes-at t (l .i) b)) ∙ sym (extra-arity sig ((c .before .before .before .before .before .before) .pre .0 .sized) (getD (codes 0 t) (l .i) 0)) in
     (rw e (walk-turn sig (codes 0 t) (a .j) (l .opened) (l .i) (l .inv .0) ((c .before .before .loop-test) .taken)), omega (arith, l .inv .1, (c .before .before .loop-test) .taken))
 
 returns : tie.Need-returns Inv-loop μ-loop
@@ -72,8 +72,8 @@ end-of-spec =
     Inv-loop
     μ-loop
     loop-holds
-    mul-item
-    item-requires
+    mul-number-at
+    number-at-requires
     sub-opened
     arity-requires
     add-opened

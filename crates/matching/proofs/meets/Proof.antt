@@ -6,30 +6,30 @@ use borrow.Author.Needs.{needs}
 use Rattle.matching.proofs.meets.Statement.{statement}
 use Rattle.matching.proofs.meets.Tie as tie
 
-mul-item : tie.Need-mul-item
-mul-item c = search needs
+mul-number-at : tie.Need-mul-number-at
+mul-number-at c = search needs
 
-item-requires : tie.Need-item-requires
-item-requires c κs = search needs
+number-at-requires : tie.Need-number-at-requires
+number-at-requires c κs = search needs
 
 returns : tie.Need-returns
 returns c = record {
-  met = λ e h. omega (arith, (c .before .item) .ensures .0, (c .if1) .taken, h);
+  met = λ e h. omega (arith, (c .before .number-at) .ensures .0, (c .if1) .taken, h);
   alone = λ e. absurd (let z : _≡_ {A = ℕ} 0 1 = cc in omega arith);
 }
 
-mul-item-2 : tie.Need-mul-item-2
-mul-item-2 c = search needs
+mul-number-at-2 : tie.Need-mul-number-at-2
+mul-number-at-2 c = search needs
 
-item-requires-2 : tie.Need-item-requires-2
-item-requires-2 c κs = search needs
+number-at-requires-2 : tie.Need-number-at-requires-2
+number-at-requires-2 c κs = search needs
 
 returns-2 : tie.Need-returns-2
 returns-2 c = record {
-  met = λ e h. omega (arith, leb-true 32768 ((c .item2) .result) e, (c .item2) .ensures .0);
-  alone = λ e. (omega (arith, (c .before .before .item) .ensures .0, (c .before .if1) .left), omega (arith, leb-false 32768 ((c .item2) .result) e, (c .item2) .ensures .0));
+  met = λ e h. omega (arith, leb-true 32768 ((c .number-at2) .result) e, (c .number-at2) .ensures .0);
+  alone = λ e. (omega (arith, (c .before .before .number-at) .ensures .0, (c .before .if1) .left), omega (arith, leb-false 32768 ((c .number-at2) .result) e, (c .number-at2) .ensures .0));
 }
 
 pub meets-spec : {M : Type 1} → statement M
 meets-spec =
-    tie.close (tie.spec mul-item item-requires returns mul-item-2 item-requires-2 returns-2)
+    tie.close (tie.spec mul-number-at number-at-requires returns mul-number-at-2 number-at-requires-2 returns-2)

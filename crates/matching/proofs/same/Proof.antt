@@ -17,29 +17,29 @@ abbrev μ-loop : tie.MeasureT-loop
 loop-holds : tie.Need-loop-holds Inv-loop μ-loop
 loop-holds c = (omega arith, refl)
 
-add-item : tie.Need-add-item Inv-loop μ-loop
-add-item c = omega arith
+add-number-at : tie.Need-add-number-at Inv-loop μ-loop
+add-number-at c = omega arith
 
-mul-item : tie.Need-mul-item Inv-loop μ-loop
-mul-item c = omega arith
+mul-number-at : tie.Need-mul-number-at Inv-loop μ-loop
+mul-number-at c = omega arith
 
-item-requires : tie.Need-item-requires Inv-loop μ-loop
-item-requires c κs = omega arith
+number-at-requires : tie.Need-number-at-requires Inv-loop μ-loop
+number-at-requires c κs = omega arith
 
-add-item-2 : tie.Need-add-item-2 Inv-loop μ-loop
-add-item-2 c = omega arith
+add-number-at-2 : tie.Need-add-number-at-2 Inv-loop μ-loop
+add-number-at-2 c = omega arith
 
-mul-item-2 : tie.Need-mul-item-2 Inv-loop μ-loop
-mul-item-2 c = omega arith
+mul-number-at-2 : tie.Need-mul-number-at-2 Inv-loop μ-loop
+mul-number-at-2 c = omega arith
 
-item-requires-2 : tie.Need-item-requires-2 Inv-loop μ-loop
-item-requires-2 c κs = omega arith
+number-at-requires-2 : tie.Need-number-at-requires-2 Inv-loop μ-loop
+number-at-requires-2 c κs = omega arith
 
 returns : tie.Need-returns Inv-loop μ-loop
 returns c = let a = (c .before .before .before .before .before .before) .args in
     let l = (c .before .before .before .before) .loop in
     decided-no (same-differs (a .t .now) (a .a) (a .b) (l .i) (omega arith) (omega arith) (a .n) ((c .before .before .before .loop-test) .taken)
-    (λ e. (c .if1) .taken ((c .before .before .item) .ensures .0 ∙ e ∙ sym ((c .before .item2) .ensures .0))))
+    (λ e. (c .if1) .taken ((c .before .before .number-at) .ensures .0 ∙ e ∙ sym ((c .before .number-at2) .ensures .0))))
 
 add-i : tie.Need-add-i Inv-loop μ-loop
 add-i c = omega arith
@@ -50,7 +50,7 @@ loop-less c = omega arith
 loop-again : tie.Need-loop-again Inv-loop μ-loop
 loop-again c = let a = (c .before .before .before .before .before .before) .args in
     let l = (c .before .before .before .before) .loop in
-    (omega arith, same-more (a .t .now) (a .a) (a .b) (l .i) (omega arith) (omega arith) (sym ((c .before .before .item) .ensures .0) ∙ (c .if1) .left ∙ (c .before .item2) .ensures .0) (l .inv .1))
+    (omega arith, same-more (a .t .now) (a .a) (a .b) (l .i) (omega arith) (omega arith) (sym ((c .before .before .number-at) .ensures .0) ∙ (c .if1) .left ∙ (c .before .number-at2) .ensures .0) (l .inv .1))
 
 returns-2 : tie.Need-returns-2 Inv-loop μ-loop
 returns-2 c = let a = (c .before .before .before) .args in
@@ -65,12 +65,12 @@ same-spec =
     Inv-loop
     μ-loop
     loop-holds
-    add-item
-    mul-item
-    item-requires
-    add-item-2
-    mul-item-2
-    item-requires-2
+    add-number-at
+    mul-number-at
+    number-at-requires
+    add-number-at-2
+    mul-number-at-2
+    number-at-requires-2
     returns
     add-i
     loop-less

@@ -19,11 +19,11 @@ abbrev μ-loop : tie.MeasureT-loop
 loop-holds : tie.Need-loop-holds Inv-loop μ-loop
 loop-holds c = (omega arith, refl, refl, front-start ((c .before .before) .args .out .now) (numbers ((c .before .before) .args .t .now)))
 
-mul-item : tie.Need-mul-item Inv-loop μ-loop
-mul-item c = omega arith
+mul-number-at : tie.Need-mul-number-at Inv-loop μ-loop
+mul-number-at c = omega arith
 
-item-requires : tie.Need-item-requires Inv-loop μ-loop
-item-requires c κs = omega arith
+number-at-requires : tie.Need-number-at-requires Inv-loop μ-loop
+number-at-requires c κs = omega arith
 
 low16-requires : tie.Need-low16-requires Inv-loop μ-loop
 low16-requires c κs = omega arith
@@ -45,7 +45,7 @@ loop-again c = let l = (c .before .before .before .loop) in (
   omega arith,
   l .inv .1,
   simp length-set (l .inv .2),
-  front-turn _ _ _ (l .i) _ (l .inv .3) (omega (arith, length-numbers ((c .before .before .before .before .before .before) .args .t .now))) ((c .low16) .ensures ∙ (c .before .item) .ensures .0 ∙ sym (getD-numbers _ (l .i) (omega arith))),
+  front-turn _ _ _ (l .i) _ (l .inv .3) (omega (arith, length-numbers ((c .before .before .before .before .before .before) .args .t .now))) ((c .low16) .ensures ∙ (c .before .number-at) .ensures .0 ∙ sym (getD-numbers _ (l .i) (omega arith))),
 )
 
 same-length : tie.Need-same-length Inv-loop μ-loop
@@ -61,8 +61,8 @@ decode-spec =
     Inv-loop
     μ-loop
     loop-holds
-    mul-item
-    item-requires
+    mul-number-at
+    number-at-requires
     low16-requires
     mul-out
     slice-write-out

@@ -4,7 +4,7 @@ use mathlib.Core.List.{List}
 use native.Mathlib.Omega.{arith}
 use mathlib.Core.Logic.{⊎-elim}
 use Rattle.laws.specs.Choice.{pick}
-use Rattle.slots.specs.Slots.{inserted}
+use Rattle.slots.specs.Slots.{inserted, next-above}
 use Rattle.retrieve.proofs.Laws.{pick-yes, pick-no, Confirming, confirming-start, confirming-turn, confirming-end}
 use Rattle.retrieve.proofs.confirmed.Statement.{statement}
 use Rattle.retrieve.proofs.confirmed.Tie as tie
@@ -19,7 +19,7 @@ empty-requires : tie.Need-empty-requires Inv-loop μ-loop
 empty-requires c κs = tt
 
 next-requires : tie.Need-next-requires Inv-loop μ-loop
-next-requires c κs = omega arith
+next-requires c κs = tt
 
 loop-holds : tie.Need-loop-holds Inv-loop μ-loop
 loop-holds c = let a = (c .before .before .before .before .before) .args in confirming-start (a .bytes .now) (a .relation) (a .sig .now) (a .q .now) (a .candidates .words) _ _ ((c .before .empty) .ensures) ((c .next) .ensures)
@@ -31,16 +31,16 @@ stands-requires : tie.Need-stands-requires Inv-loop μ-loop
 stands-requires c κs = ((c .before .before .before .before .before .before .before .before) .pre .1, (c .before .before .before .before .before .before .before .before) .pre .2)
 
 insert-requires : tie.Need-insert-requires Inv-loop μ-loop
-insert-requires c κs = (c .before .before .before .loop-test) .taken
+insert-requires c κs = tt
 
 add-next : tie.Need-add-next Inv-loop μ-loop
 add-next c = omega (arith, (c .before .before .before .loop-test) .taken)
 
 next-requires-2 : tie.Need-next-requires-2 Inv-loop μ-loop
-next-requires-2 c κs = omega (arith, (c .before .before .before .loop-test) .taken)
+next-requires-2 c κs = tt
 
 loop-less : tie.Need-loop-less Inv-loop μ-loop
-loop-less c = omega (arith, (c .next2) .ensures .above, (c .before .before .before .before .loop-test) .taken)
+loop-less c = let t = (c .before .before .before .before .loop-test) .taken in omega (arith, next-above _ _ _ ((c .next2) .ensures) (omega (arith, t)), t)
 
 loop-again : tie.Need-loop-again Inv-loop μ-loop
 loop-again c = let a = (c .before .before .before .before .before .before .before .before .before .before .before) .args in let l = (c .before .before .before .before .before .loop) in

@@ -48,26 +48,26 @@ confirmed-requires : tie.Need-confirmed-requires
 confirmed-requires c κs = let L = long _ _ _ _ _ _ _ _ (sym ((c .before .before .before .before .before .before .before .before .long-enough) .ensures) ∙ not-false ((c .before .before .before .before .before .before .before .before .long-enough) .result) ((c .before .before .before .before .before .before .before .if1) .left)) in
     (L .bytes, rw ((c .before .before .before .before .before .signature) .ensures) (signature-good _), checked-taken _ _ _ ((c .before .before .before .before .check) .ensures) ((c .before .before .enum-told) .given .1))
 
-size-requires : tie.Need-size-requires
-size-requires c κs = search needs
+list-requires : tie.Need-list-requires
+list-requires c κs = search needs
 
 mul-if3 : tie.Need-mul-if3
-mul-if3 c = omega (arith, (c .size) .ensures .1)
-
-returns-4 : tie.Need-returns-4
-returns-4 c = let a = (c .before .before .before .before .before .before .before .before .before .before .before .before .before .before .before .before .before .before .before .before .before .before) .args in retrieving-room (held (a .bytes .now) (a .used .now) (a .label .now) (a .link .now) (a .s0 .now) (a .s1 .now) (a .s2 .now) (a .s3 .now)) (a .relation) (a .q .now) (a .out .now) (ample-is (a .bytes .now) (a .used .now) (a .label .now) (a .link .now) (a .s0 .now) (a .s1 .now) (a .s2 .now) (a .s3 .now) ((c .before .before .before .before .before .before .before .before .before .before .before .long-enough) .result) _ ((c .before .before .before .before .before .before .before .before .before .before .before .long-enough) .ensures) (not-false ((c .before .before .before .before .before .before .before .before .before .before .before .long-enough) .result) ((c .before .before .before .before .before .before .before .before .before .before .if1) .left))) (omega (arith, (c .before .before .before .before .before .before .before .before .before .if2) .left)) ((c .before .before .before .before .before .before .before .before .signature) .result .now) ((c .before .before .before .before .before .before .before .before .signature) .ensures) (checked-taken ((c .before .before .before .before .before .before .before .before .signature) .result .now) (a .q .now) ((c .before .before .before .before .before .before .before .check) .result) ((c .before .before .before .before .before .before .before .check) .ensures) ((c .before .before .before .before .before .enum-told) .given .1)) ((c .before .before .before .candidates) .result .words) ((c .before .before .before .before .slots-used) .result .words) ((c .before .before .confirmed) .result .words) ((c .before .before .before .before .slots-used) .ensures) ((c .before .before .before .candidates) .ensures) ((c .before .before .confirmed) .ensures) ((c .before .size) .result) ((c .before .size) .ensures .0) ((c .if3) .taken)
-
-list-requires : tie.Need-list-requires
-list-requires c κs = omega (arith, (c .before .before .size) .ensures .0, (c .before .if3) .left)
-
-size-requires-2 : tie.Need-size-requires-2
-size-requires-2 c κs = search needs
+mul-if3 c = omega (arith, (c .before .before .list) .ensures .1)
 
 same-length : tie.Need-same-length
 same-length c = search needs
 
+returns-4 : tie.Need-returns-4
+returns-4 c = let a = (c .before .before .before .before .before .before .before .before .before .before .before .before .before .before .before .before .before .before .before .before .before .before .before .before .before) .args in retrieving-room (held (a .bytes .now) (a .used .now) (a .label .now) (a .link .now) (a .s0 .now) (a .s1 .now) (a .s2 .now) (a .s3 .now)) (a .relation) (a .q .now) (a .out .now) (ample-is (a .bytes .now) (a .used .now) (a .label .now) (a .link .now) (a .s0 .now) (a .s1 .now) (a .s2 .now) (a .s3 .now) ((c .before .before .before .before .before .before .before .before .before .before .before .before .before .before .long-enough) .result) _ ((c .before .before .before .before .before .before .before .before .before .before .before .before .before .before .long-enough) .ensures) (not-false ((c .before .before .before .before .before .before .before .before .before .before .before .before .before .before .long-enough) .result) ((c .before .before .before .before .before .before .before .before .before .before .before .before .before .if1) .left))) (omega (arith, (c .before .before .before .before .before .before .before .before .before .before .before .before .if2) .left)) ((c .before .before .before .before .before .before .before .before .before .before .before .signature) .result .now) ((c .before .before .before .before .before .before .before .before .before .before .before .signature) .ensures) (checked-taken ((c .before .before .before .before .before .before .before .before .before .before .before .signature) .result .now) (a .q .now) ((c .before .before .before .before .before .before .before .before .before .before .check) .result) ((c .before .before .before .before .before .before .before .before .before .before .check) .ensures) ((c .before .before .before .before .before .before .before .before .enum-told) .given .1)) ((c .before .before .before .before .before .before .candidates) .result .words) ((c .before .before .before .before .before .before .before .slots-used) .result .words) ((c .before .before .before .before .before .confirmed) .result .words) ((c .before .before .before .before .before .before .before .slots-used) .ensures) ((c .before .before .before .before .before .before .candidates) .ensures) ((c .before .before .before .before .before .confirmed) .ensures) ((c .before .before .before .list) .result) _ ((c .before .before .before .list) .ensures .0) (omega (arith, (c .if3) .taken)) ((c .before .before .before .list) .ensures .2)
+
+size-requires : tie.Need-size-requires
+size-requires c κs = search needs
+
+same-length-2 : tie.Need-same-length-2
+same-length-2 c = search needs
+
 returns-5 : tie.Need-returns-5
-returns-5 c = let a = (c .before .before .before .before .before .before .before .before .before .before .before .before .before .before .before .before .before .before .before .before .before .before .before .before .before .before .before) .args in retrieving-listed (held (a .bytes .now) (a .used .now) (a .label .now) (a .link .now) (a .s0 .now) (a .s1 .now) (a .s2 .now) (a .s3 .now)) (a .relation) (a .q .now) (a .out .now) (ample-is (a .bytes .now) (a .used .now) (a .label .now) (a .link .now) (a .s0 .now) (a .s1 .now) (a .s2 .now) (a .s3 .now) ((c .before .before .before .before .before .before .before .before .before .before .before .before .before .before .before .before .long-enough) .result) _ ((c .before .before .before .before .before .before .before .before .before .before .before .before .before .before .before .before .long-enough) .ensures) (not-false ((c .before .before .before .before .before .before .before .before .before .before .before .before .before .before .before .before .long-enough) .result) ((c .before .before .before .before .before .before .before .before .before .before .before .before .before .before .before .if1) .left))) (omega (arith, (c .before .before .before .before .before .before .before .before .before .before .before .before .before .before .if2) .left)) ((c .before .before .before .before .before .before .before .before .before .before .before .before .before .signature) .result .now) ((c .before .before .before .before .before .before .before .before .before .before .before .before .before .signature) .ensures) (checked-taken ((c .before .before .before .before .before .before .before .before .before .before .before .before .before .signature) .result .now) (a .q .now) ((c .before .before .before .before .before .before .before .before .before .before .before .before .check) .result) ((c .before .before .before .before .before .before .before .before .before .before .before .before .check) .ensures) ((c .before .before .before .before .before .before .before .before .before .before .enum-told) .given .1)) ((c .before .before .before .before .before .before .before .before .candidates) .result .words) ((c .before .before .before .before .before .before .before .before .before .slots-used) .result .words) ((c .before .before .before .before .before .before .before .confirmed) .result .words) ((c .before .before .before .before .before .before .before .before .before .slots-used) .ensures) ((c .before .before .before .before .before .before .before .before .candidates) .ensures) ((c .before .before .before .before .before .before .before .confirmed) .ensures) ((c .size2) .result) ((c .before .before .before .before .before .before .size) .result) _ ((c .size2) .ensures .0) ((c .before .before .before .before .before .before .size) .ensures .0) (omega (arith, (c .before .before .before .before .before .if3) .left)) ((c .before .before .before .list) .ensures)
+returns-5 c = let a = (c .before .before .before .before .before .before .before .before .before .before .before .before .before .before .before .before .before .before .before .before .before .before .before .before .before .before) .args in retrieving-listed (held (a .bytes .now) (a .used .now) (a .label .now) (a .link .now) (a .s0 .now) (a .s1 .now) (a .s2 .now) (a .s3 .now)) (a .relation) (a .q .now) (a .out .now) (ample-is (a .bytes .now) (a .used .now) (a .label .now) (a .link .now) (a .s0 .now) (a .s1 .now) (a .s2 .now) (a .s3 .now) ((c .before .before .before .before .before .before .before .before .before .before .before .before .before .before .before .long-enough) .result) _ ((c .before .before .before .before .before .before .before .before .before .before .before .before .before .before .before .long-enough) .ensures) (not-false ((c .before .before .before .before .before .before .before .before .before .before .before .before .before .before .before .long-enough) .result) ((c .before .before .before .before .before .before .before .before .before .before .before .before .before .before .if1) .left))) (omega (arith, (c .before .before .before .before .before .before .before .before .before .before .before .before .before .if2) .left)) ((c .before .before .before .before .before .before .before .before .before .before .before .before .signature) .result .now) ((c .before .before .before .before .before .before .before .before .before .before .before .before .signature) .ensures) (checked-taken ((c .before .before .before .before .before .before .before .before .before .before .before .before .signature) .result .now) (a .q .now) ((c .before .before .before .before .before .before .before .before .before .before .before .check) .result) ((c .before .before .before .before .before .before .before .before .before .before .before .check) .ensures) ((c .before .before .before .before .before .before .before .before .before .enum-told) .given .1)) ((c .before .before .before .before .before .before .before .candidates) .result .words) ((c .before .before .before .before .before .before .before .before .slots-used) .result .words) ((c .before .before .before .before .before .before .confirmed) .result .words) ((c .before .before .before .before .before .before .before .before .slots-used) .ensures) ((c .before .before .before .before .before .before .before .candidates) .ensures) ((c .before .before .before .before .before .before .confirmed) .ensures) ((c .size) .result) ((c .before .before .before .before .list) .result) _ ((c .size) .ensures .0) ((c .before .before .before .before .list) .ensures .0) (omega (arith, (c .before .if3) .left)) ((c .before .before .before .before .list) .ensures .2)
 
 pub retrieve-spec : {M : Type 1} → statement M
 retrieve-spec =
@@ -84,10 +84,10 @@ retrieve-spec =
     slots-used-requires
     candidates-requires
     confirmed-requires
-    size-requires
-    mul-if3
-    returns-4
     list-requires
-    size-requires-2
+    mul-if3
     same-length
+    returns-4
+    size-requires
+    same-length-2
     returns-5)

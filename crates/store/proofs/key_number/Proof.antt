@@ -20,8 +20,8 @@ abbrev μ-loop : tie.MeasureT-loop
 loop-holds : tie.Need-loop-holds Inv-loop μ-loop
 loop-holds c = (omega arith, number-start _ _ _)
 
-item-requires : tie.Need-item-requires Inv-loop μ-loop
-item-requires c κs = omega arith
+number-at-requires : tie.Need-number-at-requires Inv-loop μ-loop
+number-at-requires c κs = omega arith
 
 low16-requires : tie.Need-low16-requires Inv-loop μ-loop
 low16-requires c κs = omega arith
@@ -51,13 +51,13 @@ loop-less : tie.Need-loop-less Inv-loop μ-loop
 loop-less c = let l = (c .before .before .before .before .before .before .before .before .loop) in rw tail-part (omega (arith, length-drop 3 (l .rest .now)))
 
 loop-again : tie.Need-loop-again Inv-loop μ-loop
-loop-again c = ((c .before .place-of) .ensures .1, rw tail-part (number-turn _ _ _ _ _ _ _ ((c .before .before .before .before .before .before .before .loop-test) .taken) ((c .before .before .before .before .before .low16) .ensures ∙ (c .before .before .before .before .before .before .item) .ensures .0) ((c .before .before .before .find) .ensures ∙ ap (find _ _) ((c .before .before .before .before .label-of) .ensures)) ((c .before .place-of) .ensures .0) ∙ (c .before .before .before .before .before .before .before .before .loop) .inv .1))
+loop-again c = ((c .before .place-of) .ensures .1, rw tail-part (number-turn _ _ _ _ _ _ _ ((c .before .before .before .before .before .before .before .loop-test) .taken) ((c .before .before .before .before .before .low16) .ensures ∙ (c .before .before .before .before .before .before .number-at) .ensures .0) ((c .before .before .before .find) .ensures ∙ ap (find _ _) ((c .before .before .before .before .label-of) .ensures)) ((c .before .place-of) .ensures .0) ∙ (c .before .before .before .before .before .before .before .before .loop) .inv .1))
 
 returns : tie.Need-returns Inv-loop μ-loop
 returns c = number-none _ _ _ _ (omega arith) (λ z. omega arith) ∙ (c .before .before .loop) .inv .1
 
-item-requires-2 : tie.Need-item-requires-2 Inv-loop μ-loop
-item-requires-2 c κs = omega arith
+number-at-requires-2 : tie.Need-number-at-requires-2 Inv-loop μ-loop
+number-at-requires-2 c κs = omega arith
 
 end-number-requires : tie.Need-end-number-requires Inv-loop μ-loop
 end-number-requires c κs = search needs
@@ -69,7 +69,7 @@ find-requires-2 : tie.Need-find-requires-2 Inv-loop μ-loop
 find-requires-2 c κs = ((c .before .before .before .before .before .before .before .before .before) .pre .0, (c .before .before .before .before .before .before .before .before .before) .pre .1)
 
 returns-2 : tie.Need-returns-2 Inv-loop μ-loop
-returns-2 c = number-end _ _ _ _ _ _ _ _ (omega arith) ((c .before .before .before .item2) .ensures .0) ((c .before .before .end-number) .ensures) ((c .before .label-of2) .ensures) ((c .find2) .ensures) ∙ (c .before .before .before .before .before .before .loop) .inv .1
+returns-2 c = number-end _ _ _ _ _ _ _ _ (omega arith) ((c .before .before .before .number-at2) .ensures .0) ((c .before .before .end-number) .ensures) ((c .before .label-of2) .ensures) ((c .find2) .ensures) ∙ (c .before .before .before .before .before .before .loop) .inv .1
 
 pub key-number-spec : {M : Type 1} → statement M
 key-number-spec =
@@ -78,7 +78,7 @@ key-number-spec =
     Inv-loop
     μ-loop
     loop-holds
-    item-requires
+    number-at-requires
     low16-requires
     label-of-requires
     find-requires
@@ -90,7 +90,7 @@ key-number-spec =
     loop-less
     loop-again
     returns
-    item-requires-2
+    number-at-requires-2
     end-number-requires
     label-of-requires-2
     find-requires-2

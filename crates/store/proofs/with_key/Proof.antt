@@ -2,6 +2,7 @@ use mathlib.Core.Path.{sym, _∙_}
 use borrow.Author.Tests.{not-true, not-false}
 use Rattle.layout.proofs.Laws.{long}
 use borrow.Author.Needs.{needs}
+use native.Mathlib.Omega.{arith}
 use mathlib.Core.Bool.{true, false}
 use Rattle.store.proofs.Public.{fair, ask-short, ask-bad, ask-room, ask-done}
 use Rattle.store.proofs.with_key.Statement.{statement}
@@ -35,23 +36,23 @@ meet-requires : tie.Need-meet-requires
 meet-requires c κs = let L = long _ _ _ _ _ _ _ _ (sym ((c .before .before .before .before .before .before .long-enough) .ensures) ∙ not-false ((c .before .before .before .before .before .before .long-enough) .result) ((c .before .before .before .before .before .if1) .left)) in
     record { l0 = L .l0; l1 = L .l1; l2 = L .l2; l3 = L .l3 }
 
-size-requires : tie.Need-size-requires
-size-requires c κs = search needs
+list-requires : tie.Need-list-requires
+list-requires c κs = search needs
 
 mul-if3 : tie.Need-mul-if3
 mul-if3 c = search needs
 
-returns-3 : tie.Need-returns-3
-returns-3 c = ask-room _ _ _ _ _ _ _ _ _ (fair _ ((c .before .before .before .before .before .before .before .before .before .long-enough) .result) true ((c .before .before .before .before .before .before .before .before .before .long-enough) .ensures) (not-false ((c .before .before .before .before .before .before .before .before .before .long-enough) .result) ((c .before .before .before .before .before .before .before .before .if1) .left))) ((c .before .before .before .before .before .before .before .signature) .ensures) ((c .before .before .before .before .before .before .is-key) .ensures) (not-false ((c .before .before .before .before .before .before .is-key) .result) ((c .before .before .before .before .before .if2) .left)) ((c .before .before .before .before .key-number) .ensures) ((c .before .before .before .slots-used) .ensures) ((c .before .before .meet) .ensures) ((c .before .size) .ensures .0) ((c .if3) .taken)
-
-list-requires : tie.Need-list-requires
-list-requires c κs = search needs
-
 same-length : tie.Need-same-length
 same-length c = search needs
 
+returns-3 : tie.Need-returns-3
+returns-3 c = ask-room _ _ _ _ _ _ _ _ _ _ (fair _ ((c .before .before .before .before .before .before .before .before .before .before .before .before .long-enough) .result) true ((c .before .before .before .before .before .before .before .before .before .before .before .before .long-enough) .ensures) (not-false ((c .before .before .before .before .before .before .before .before .before .before .before .before .long-enough) .result) ((c .before .before .before .before .before .before .before .before .before .before .before .if1) .left))) ((c .before .before .before .before .before .before .before .before .before .before .signature) .ensures) ((c .before .before .before .before .before .before .before .before .before .is-key) .ensures) (not-false ((c .before .before .before .before .before .before .before .before .before .is-key) .result) ((c .before .before .before .before .before .before .before .before .if2) .left)) ((c .before .before .before .before .before .before .before .key-number) .ensures) ((c .before .before .before .before .before .before .slots-used) .ensures) ((c .before .before .before .before .before .meet) .ensures) ((c .before .before .before .list) .ensures .0) (omega (arith, (c .if3) .taken)) ((c .before .before .before .list) .ensures .2)
+
+same-length-2 : tie.Need-same-length-2
+same-length-2 c = search needs
+
 returns-4 : tie.Need-returns-4
-returns-4 c = ask-done _ _ _ _ _ _ _ _ _ _ (fair _ ((c .before .before .before .before .before .before .before .before .before .before .before .before .before .long-enough) .result) true ((c .before .before .before .before .before .before .before .before .before .before .before .before .before .long-enough) .ensures) (not-false ((c .before .before .before .before .before .before .before .before .before .before .before .before .before .long-enough) .result) ((c .before .before .before .before .before .before .before .before .before .before .before .before .if1) .left))) ((c .before .before .before .before .before .before .before .before .before .before .before .signature) .ensures) ((c .before .before .before .before .before .before .before .before .before .before .is-key) .ensures) (not-false ((c .before .before .before .before .before .before .before .before .before .before .is-key) .result) ((c .before .before .before .before .before .before .before .before .before .if2) .left)) ((c .before .before .before .before .before .before .before .before .key-number) .ensures) ((c .before .before .before .before .before .before .before .slots-used) .ensures) ((c .before .before .before .before .before .before .meet) .ensures) ((c .before .before .before .before .before .size) .ensures .0) ((c .before .before .before .before .if3) .left) ((c .before .before .list) .ensures)
+returns-4 c = ask-done _ _ _ _ _ _ _ _ _ _ (fair _ ((c .before .before .before .before .before .before .before .before .before .before .before .before .long-enough) .result) true ((c .before .before .before .before .before .before .before .before .before .before .before .before .long-enough) .ensures) (not-false ((c .before .before .before .before .before .before .before .before .before .before .before .before .long-enough) .result) ((c .before .before .before .before .before .before .before .before .before .before .before .if1) .left))) ((c .before .before .before .before .before .before .before .before .before .before .signature) .ensures) ((c .before .before .before .before .before .before .before .before .before .is-key) .ensures) (not-false ((c .before .before .before .before .before .before .before .before .before .is-key) .result) ((c .before .before .before .before .before .before .before .before .if2) .left)) ((c .before .before .before .before .before .before .before .key-number) .ensures) ((c .before .before .before .before .before .before .slots-used) .ensures) ((c .before .before .before .before .before .meet) .ensures) ((c .before .before .before .list) .ensures .0) (omega (arith, (c .if3) .left)) ((c .before .before .before .list) .ensures .2)
 
 pub with-key-spec : {M : Type 1} → statement M
 with-key-spec =
@@ -65,9 +66,9 @@ with-key-spec =
     key-number-requires
     slots-used-requires
     meet-requires
-    size-requires
-    mul-if3
-    returns-3
     list-requires
+    mul-if3
     same-length
+    returns-3
+    same-length-2
     returns-4)

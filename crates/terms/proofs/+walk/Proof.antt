@@ -12,7 +12,7 @@ use Rattle.terms.proofs.walk.Reads as walk
 use Rattle.terms.proofs.walk.Kinds as walk-kinds
 use Rattle.terms.proofs.+walk.Lts-walk as walk-lts
 use Rattle.terms.proofs.arity.Reads as arity-reads
-use Rattle.terms.proofs.item.Reads as item-reads
+use Rattle.laws.proofs.number_at.Reads as number-at-reads
 use Rattle.terms.proofs.+walk.{statement}
 use Rattle.terms.proofs.+walk.Tie.{close}
 
@@ -26,7 +26,7 @@ abbrev walk-below : ℕ → In 2 walk-kinds.ps
 walk-below t = and 2 walk-kinds.ps (falls 2 walk-kinds.ps _<_ μ-walk t) walk.Pre
 
 abbrev R : ℕ → walk-lts.Claims
-R t = (item-reads.Asked, item-reads.Learnt, arity-reads.Asked, arity-reads.Learnt, walk-below t, walk.Post)
+R t = (number-at-reads.Asked, number-at-reads.Learnt, arity-reads.Asked, arity-reads.Learnt, walk-below t, walk.Post)
 
 abbrev walk-Inv-loop : walk-lts.InvT-loop
 walk-Inv-loop sig t levels a used₀ i₀ used i = (i ≤ a) × (2 ≤ used) × (used ≤ length t) × (span sig t 1 ≡ used + span sig (drop used t) (a - i))
@@ -40,8 +40,8 @@ walk-add-result t c = omega arith
 walk-returns : (t : ℕ) → walk-lts.Need-returns (R t) (walk-at t) walk.Post walk-Inv-loop walk-μ-loop
 walk-returns t c = let a = c .before .before .before .args in omega (arith, span-short (a .sig .now) (a .t .now) 1 (c .if1 .taken))
 
-walk-item-requires : (t : ℕ) → walk-lts.Need-item-requires (R t) (walk-at t) walk.Post walk-Inv-loop walk-μ-loop
-walk-item-requires t c κs = omega arith
+walk-number-at-requires : (t : ℕ) → walk-lts.Need-number-at-requires (R t) (walk-at t) walk.Post walk-Inv-loop walk-μ-loop
+walk-number-at-requires t c κs = omega arith
 
 walk-arity-requires : (t : ℕ) → walk-lts.Need-arity-requires (R t) (walk-at t) walk.Post walk-Inv-loop walk-μ-loop
 walk-arity-requires t c κs = tt
@@ -50,7 +50,7 @@ walk-loop-holds : (t : ℕ) → walk-lts.Need-loop-holds (R t) (walk-at t) walk.
 walk-loop-holds t c =
     let a = c .before .before .before .before .before .args in
     let h : 2 ≤ length (a .t .now) = omega arith in
-    let e : c .arity .result - 0 ≡ getD (a .sig .now) (getD (a .t .now) 0 0 * 256 + getD (a .t .now) 1 0) 0 + 0 = rw (← c .before .item .ensures .0) (omega (arith, c .arity .ensures .0)) in
+    let e : c .arity .result - 0 ≡ getD (a .sig .now) (getD (a .t .now) 0 0 * 256 + getD (a .t .now) 1 0) 0 + 0 = rw (← c .before .number-at .ensures .0) (omega (arith, c .arity .ensures .0)) in
     (omega arith, omega arith, h, rw e (span-head (a .sig .now) (a .t .now) 0 h))
 
 walk-sub-rest : (t : ℕ) → walk-lts.Need-sub-rest (R t) (walk-at t) walk.Post walk-Inv-loop walk-μ-loop
@@ -111,7 +111,7 @@ pub +walk-spec : {M : Type 1} → statement M
     walk-μ-loop
     (walk-add-result t)
     (walk-returns t)
-    (walk-item-requires t)
+    (walk-number-at-requires t)
     (walk-arity-requires t)
     (walk-loop-holds t)
     (walk-sub-rest t)

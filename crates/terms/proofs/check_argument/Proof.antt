@@ -26,8 +26,8 @@ unfolding argRefusal
 returns-2 c = let e = sym (c .before .before .number .ensures ∙ c .before .before .before .check .ensures) ∙ c .before .if1 .left in
     simp (e, eq-eqb _ _ (c .if2 .taken))
 
-item-requires : tie.Need-item-requires
-item-requires c κs = let e = sym (c .before .before .number .ensures ∙ c .before .before .before .check .ensures) ∙ c .before .if1 .left in
+number-at-requires : tie.Need-number-at-requires
+number-at-requires c κs = let e = sym (c .before .before .number .ensures ∙ c .before .before .before .check .ensures) ∙ c .before .if1 .left in
     omega (arith, good _ _ e .long)
 
 arity-requires : tie.Need-arity-requires
@@ -37,14 +37,14 @@ returns-3 : tie.Need-returns-3
 unfolding argRefusal
 returns-3 c = let b = c .before .before .before in
     let e = sym (b .before .before .number .ensures ∙ b .before .before .before .check .ensures) ∙ b .before .if1 .left in
-    let f = rw (c .before .arity .ensures .0, c .before .before .item .ensures .0) at (c .if3 .taken) in
+    let f = rw (c .before .arity .ensures .0, c .before .before .number-at .ensures .0) at (c .if3 .taken) in
     simp (e, ne-eqb _ _ (b .if2 .left), lt-ltb _ _ f)
 
 returns-4 : tie.Need-returns-4
 unfolding argRefusal
 returns-4 c = let b = c .before .before .before in
     let e = sym (b .before .before .number .ensures ∙ b .before .before .before .check .ensures) ∙ b .before .if1 .left in
-    let f = rw (c .before .arity .ensures .0, c .before .before .item .ensures .0) at (c .if3 .left) in
+    let f = rw (c .before .arity .ensures .0, c .before .before .number-at .ensures .0) at (c .if3 .left) in
     simp (e, ne-eqb _ _ (b .if2 .left), le-ltb _ _ f)
 
 pub check-argument-spec : {M : Type 1} → statement M
@@ -55,7 +55,7 @@ check-argument-spec =
     number-requires
     returns
     returns-2
-    item-requires
+    number-at-requires
     arity-requires
     returns-3
     returns-4)

@@ -26,8 +26,8 @@ returns-3 c = let l = (c .before .before .loop) in untaken _ _ (passing-closed _
 sub-opened : tie.Need-sub-opened Inv-loop μ-loop
 sub-opened c = omega arith
 
-item-requires : tie.Need-item-requires Inv-loop μ-loop
-item-requires c κs = let l = (c .before .before .loop) in omega (arith, l .inv .even, (c .before .loop-test) .taken, (c .before .before .before .if2) .left)
+number-at-requires : tie.Need-number-at-requires Inv-loop μ-loop
+number-at-requires c κs = let l = (c .before .before .loop) in omega (arith, l .inv .even, (c .before .loop-test) .taken, (c .before .before .before .if2) .left)
 
 brings-requires : tie.Need-brings-requires Inv-loop μ-loop
 brings-requires c κs = tt
@@ -43,7 +43,7 @@ loop-less c = omega arith
 
 loop-again : tie.Need-loop-again Inv-loop μ-loop
 loop-again c = let l = (c .before .before .before .before .loop) in
-    passing-turn _ _ (l .at) (l .opened) _ _ (l .inv) (omega (arith, l .inv .even, (c .before .before .before .loop-test) .taken, (c .before .before .before .before .before .if2) .left)) ((c .before .before .if3) .left) ((c .before .item) .ensures .0) ((c .brings) .ensures .1) ((c .brings) .ensures .0)
+    passing-turn _ _ (l .at) (l .opened) _ _ (l .inv) (omega (arith, l .inv .even, (c .before .before .before .loop-test) .taken, (c .before .before .before .before .before .if2) .left)) ((c .before .before .if3) .left) ((c .before .number-at) .ensures .0) ((c .brings) .ensures .1) ((c .brings) .ensures .0)
 
 returns-4 : tie.Need-returns-4 Inv-loop μ-loop
 returns-4 c = let l = (c .before .loop) in passing-end _ _ (l .at) (l .opened) (l .inv) (omega arith) ((c .before .before .before .if1) .left) ((c .before .before .if2) .left)
@@ -59,7 +59,7 @@ is-term-spec =
     loop-holds
     returns-3
     sub-opened
-    item-requires
+    number-at-requires
     brings-requires
     add-opened
     add-at

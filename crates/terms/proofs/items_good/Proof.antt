@@ -23,8 +23,8 @@ abbrev μ-loop : tie.MeasureT-loop
 loop-holds : tie.Need-loop-holds Inv-loop μ-loop
 loop-holds c = refl
 
-item-requires : tie.Need-item-requires Inv-loop μ-loop
-item-requires c κs = omega arith
+number-at-requires : tie.Need-number-at-requires Inv-loop μ-loop
+number-at-requires c κs = omega arith
 
 declared-requires : tie.Need-declared-requires Inv-loop μ-loop
 declared-requires c κs = tt
@@ -33,7 +33,7 @@ returns : tie.Need-returns Inv-loop μ-loop
 returns c = let l = c .before .before .before .before .loop in
     let n = c .before .before .before .before .before .before .args .n in
     let h : 2 ≤ length (l .rest .now) = omega arith in
-    let d : isDeclared n (getD (l .rest .now) 0 0 * 256 + getD (l .rest .now) 1 0) ≡ false = rw (← c .before .before .item .ensures .0) (sym (c .before .declared .ensures) ∙ not-true (c .before .declared .result) (c .if1 .taken)) in
+    let d : isDeclared n (getD (l .rest .now) 0 0 * 256 + getD (l .rest .now) 1 0) ≡ false = rw (← c .before .before .number-at .ensures .0) (sym (c .before .declared .ensures) ∙ not-true (c .before .declared .result) (c .if1 .taken)) in
     sym (l .inv ∙ (rw d at (items-step n (l .rest .now) h)))
 
 sub-rest : tie.Need-sub-rest Inv-loop μ-loop
@@ -53,7 +53,7 @@ loop-again : tie.Need-loop-again Inv-loop μ-loop
 loop-again c = let l = c .before .before .before .before .before .loop in
     let n = c .before .before .before .before .before .before .before .args .n in
     let h : 2 ≤ length (l .rest .now) = omega arith in
-    let d : isDeclared n (getD (l .rest .now) 0 0 * 256 + getD (l .rest .now) 1 0) ≡ true = rw (← c .before .before .before .item .ensures .0) (sym (c .before .before .declared .ensures) ∙ not-false (c .before .before .declared .result) (c .before .if1 .left)) in
+    let d : isDeclared n (getD (l .rest .now) 0 0 * 256 + getD (l .rest .now) 1 0) ≡ true = rw (← c .before .before .before .number-at .ensures .0) (sym (c .before .before .declared .ensures) ∙ not-false (c .before .before .declared .result) (c .before .if1 .left)) in
     rw tail-part (l .inv ∙ (rw d at (items-step n (l .rest .now) h)))
 
 returns-2 : tie.Need-returns-2 Inv-loop μ-loop
@@ -66,7 +66,7 @@ items-good-spec =
     Inv-loop
     μ-loop
     loop-holds
-    item-requires
+    number-at-requires
     declared-requires
     returns
     sub-rest

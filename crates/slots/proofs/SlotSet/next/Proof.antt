@@ -8,13 +8,13 @@ use Rattle.slots.proofs.SlotSet.next.Statement.{statement}
 use Rattle.slots.proofs.SlotSet.next.Tie as tie
 
 abbrev Inv-loop : tie.InvT-loop
-Inv-loop from self i₀ skipped₀ i skipped = (i ≤ 8) × (skipped < 64) × (from ≤ i * 64 + skipped) × ((x : ℕ) → from ≤ x → x < i * 64 + skipped → has (self .words) x ≡ 0)
+Inv-loop from self i₀ skipped₀ i skipped = (skipped < 64) × (from ≤ i * 64 + skipped) × ((x : ℕ) → from ≤ x → x < i * 64 + skipped → has (self .words) x ≡ 0)
 
 abbrev μ-loop : tie.MeasureT-loop
 μ-loop from self i₀ skipped₀ i skipped = 8 - i
 
 loop-holds : tie.Need-loop-holds Inv-loop μ-loop
-loop-holds c = (omega arith, omega arith, omega arith, λ x a b. absurd (omega arith))
+loop-holds c = (omega arith, omega arith, λ x a b. absurd (omega arith))
 
 mul-from-bit : tie.Need-mul-from-bit Inv-loop μ-loop
 mul-from-bit c = omega arith
@@ -41,7 +41,7 @@ returns : tie.Need-returns Inv-loop μ-loop
 returns c =
     let l = (c .before .before .before .before .before .loop) in
     let f = (c .before .before .from-bit) .ensures in
-    next-found _ _ (l .i) (l .skipped) _ _ ((c .before .before .before .before .loop-test) .taken) (l .inv .1) (f .0) (f .1) (l .inv .2) (l .inv .3) ((c .before .if1) .taken) ((c .zeros-of) .ensures .0)
+    next-found _ _ (l .i) (l .skipped) _ _ ((c .before .before .before .before .loop-test) .taken) (l .inv .0) (f .0) (f .1) (l .inv .1) (l .inv .2) ((c .before .if1) .taken) ((c .zeros-of) .ensures .0)
 
 add-i : tie.Need-add-i Inv-loop μ-loop
 add-i c = omega arith
@@ -53,12 +53,12 @@ loop-again : tie.Need-loop-again Inv-loop μ-loop
 loop-again c =
     let l = (c .before .before .before .before .loop) in
     let f = (c .before .from-bit) .ensures in
-    (omega arith, omega arith, omega arith, next-pass _ _ (l .i) (l .skipped) _ 0 ((c .before .before .before .loop-test) .taken) (l .inv .1) (f .0) (f .1) (l .inv .2) (l .inv .3) ((c .if1) .left))
+    (omega arith, omega arith, next-pass _ _ (l .i) (l .skipped) _ 0 ((c .before .before .before .loop-test) .taken) (l .inv .0) (f .0) (f .1) (l .inv .1) (l .inv .2) ((c .if1) .left))
 
 returns-2 : tie.Need-returns-2 Inv-loop μ-loop
 returns-2 c =
     let l = (c .before .loop) in
-    record { above = omega arith; most = omega arith; member = λ q. absurd (omega arith); none = λ x a b. l .inv .3 x a (omega arith) }
+    record { above = λ q. absurd (omega arith); most = omega arith; member = λ q. absurd (omega arith); none = λ x a b. l .inv .2 x a (omega arith) }
 
 pub next-spec : {M : Type 1} → statement M
 next-spec =

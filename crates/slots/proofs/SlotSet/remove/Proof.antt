@@ -1,10 +1,16 @@
 use native.Mathlib.Omega.{arith}
 use Prim.Native.Nat.{_%_}
+use mathlib.Core.Path.{sym}
 use Rattle.laws.specs.Digits.{one-shl}
 use Rattle.slots.specs.Slots.{removed}
+use Rattle.slots.specs.Sets.{remove-beyond}
+use Rattle.slots.proofs.Laws.{words-8}
 use borrow.Author.Needs.{needs}
 use Rattle.slots.proofs.SlotSet.remove.Statement.{statement}
 use Rattle.slots.proofs.SlotSet.remove.Tie as tie
+
+returns : tie.Need-returns
+returns c = let a = c .before in sym (remove-beyond (a .args .t1 .words) (a .args .s) (words-8 (a .args .t1 .words) (a .good .0 .1 .1 .0 .1 .0 .1)) (c .if1 .taken))
 
 mul-w : tie.Need-mul-w
 mul-w c = search needs
@@ -21,10 +27,11 @@ mul-self c = search needs
 element-write-self : tie.Need-element-write-self
 element-write-self c = search needs
 
-returns : tie.Need-returns
+returns-2 : tie.Need-returns-2
 unfolding removed
-returns c = rw (one-shl (c .before .args .s % 64) (omega arith))
+returns-2 c = rw (one-shl (c .before .before .args .s % 64) (omega arith))
 
 pub remove-spec : {M : Type 1} → statement M
 remove-spec =
-    tie.close (tie.spec mul-w element-copy-out-w shl-self mul-self element-write-self returns)
+    tie.close
+    (tie.spec returns mul-w element-copy-out-w shl-self mul-self element-write-self returns-2)
