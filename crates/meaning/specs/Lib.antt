@@ -5,6 +5,7 @@ pub mod Keyed
 pub mod Solved
 pub mod Confirmed
 pub mod Changing
+pub mod Outcomes
 pub mod Runs
 pub mod Means
 pub mod Quiet
