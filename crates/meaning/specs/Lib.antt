@@ -9,7 +9,9 @@ pub mod Outcomes
 pub mod Runs
 pub mod Means
 pub mod Quiet
+pub mod Lengths
 pub mod Opening
 pub mod Told
+pub mod Room
 pub mod Demands
 pub mod Rejected

@@ -1,5 +1,5 @@
 -- Document 01, 'Numbers of refusal': what the functions on tables compute is always what some answer says, a refusal one by name.
-use Prim.Native.Nat.{ℕ, _*_}
+use Prim.Native.Nat.{ℕ, _*_, _%_}
 use mathlib.Core.Path.{_≡_, refl}
 use mathlib.Core.Logic.{_⊎_, inl, inr}
 use mathlib.Core.Bool.{Bool, true, false}
@@ -10,7 +10,7 @@ use Rattle.laws.specs.Choice.{pick}
 use Rattle.slots.specs.Slots.{members}
 use Rattle.terms.specs.declared.Refusal.{Refusal}
 use Rattle.terms.specs.declared.Refusal.the-variants as Refusal
-use Rattle.terms.specs.Terms.{sigRefusal, refusal}
+use Rattle.terms.specs.Terms.{sigRefusal, itemsGood, span, refusal}
 use Rattle.keys.specs.Bytes.{isKey}
 use Rattle.layout.specs.Layout.{signatureOf, isUsed}
 use Rattle.layout.specs.Tables.{Tables, ample}
@@ -23,6 +23,19 @@ use Rattle.store.specs.declared.Inserted.{Inserted}
 use Rattle.store.specs.declared.Deleted.{Deleted}
 use Rattle.store.specs.declared.Listed.{Listed}
 
+-- a term is refused with 5, 6, 7 or 8, or not at all
+pub term-numbers : (P : ℕ → Type 0) (sig t : List ℕ) → P 0 → P 5 → P 6 → P 7 → P 8 → P (refusal sig t)
+unfolding refusal
+term-numbers P sig t none size odd symbol shape = go (ltb 64 (length t)) (eqb (length t) 0) (eqb (length t % 2) 1) (itemsGood (length sig) t) (eqb (span sig t 1) (length t))
+  where
+    go : (a b c d e : Bool) → P (pick a 5 (pick b 6 (pick c 6 (pick d (pick e 0 8) 7))))
+    go true b c d e = size
+    go false true c d e = odd
+    go false false true d e = odd
+    go false false false true true = none
+    go false false false true false = shape
+    go false false false false e = symbol
+
 -- nothing is refused, or a refusal has its number and no value
 abbrev Proper : ℕ → ℕ → Type 0
 Proper n v = (n ≡ 0) ⊎ (Named n × (v ≡ 0))
@@ -32,7 +45,7 @@ proper n (inl z) = inl z
 proper n (inr w) = inr (w, refl)
 
 -- what holds of both holds of the chosen one
-either : {A : Type 0} (P : A → Type 0) (b : Bool) (x y : A) → P x → P y → P (pick b x y)
+pub either : {A : Type 0} (P : A → Type 0) (b : Bool) (x y : A) → P x → P y → P (pick b x y)
 either P true x y f g = f
 either P false x y f g = g
 
