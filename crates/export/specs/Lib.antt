@@ -2,3 +2,5 @@ pub mod Arguments
 pub mod Pair
 pub mod Answered
 pub mod Calls
+pub mod Replies
+pub mod Demanded

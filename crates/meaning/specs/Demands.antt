@@ -12,9 +12,9 @@
 -- at all: none of the six asks anything of its caller, and the prover takes a function only with its ending, its indices and its
 -- arithmetic shown; so every call has an outcome. The checks of a signature and of a term and the argument of a term, with refusal
 -- 10, are calls without tables and have their contracts in terms (sigRefusal, refusal, argRefusal); 16 is the log program's (replay).
-use Prim.Native.Nat.{ℕ, _≤_, _<_}
+use Prim.Native.Nat.{ℕ, _*_, _≤_, _<_}
 use mathlib.Core.Path.{_≡_, sym, ap, _∙_}
-use mathlib.Core.Logic.{_≢_, _↔_}
+use mathlib.Core.Logic.{_≢_, _↔_, Iff·trans}
 use mathlib.Core.Bool.{true, false}
 use mathlib.Core.Option.{some}
 use mathlib.Core.List.{List, _++_}
@@ -23,6 +23,7 @@ use lib.ListN.{length, drop}
 use lib.Seq.{sets}
 use Rattle.laws.specs.Members.{In, NoDup}
 use Rattle.terms.specs.Terms.{sigRefusal, refusal}
+use Rattle.keys.specs.Bytes.{isKey}
 use Rattle.theory.specs.Relations.{Unifiable}
 use Rattle.layout.specs.Tables.{Tables, ample}
 use Rattle.definitions.specs.Trees.{treeOf}
@@ -35,14 +36,16 @@ use Rattle.slots.specs.Slots.{members}
 use Rattle.retrieve.specs.Retrieving.{candidatesOf}
 use Rattle.definitions.specs.ReadBack.{Reads, readFields}
 use Rattle.definitions.specs.Sound.{Sound}
-use Rattle.definitions.specs.Readable.{Ascending, ascending-nodup, answers-are, answers-ascend, candidates-are, candidates-ascend, solve-none, solve-long, solve-room, solve-writes, solve-solved}
-use Rattle.definitions.specs.Store.{Store, Call, Answer, answered, empty, after, openWith, retrieve, solve, answers, candidates as candidatesIn, listing, written}
+use Rattle.definitions.specs.Readable.{Ascending, ascending-nodup, answers-are, answers-ascend, candidates-are, candidates-ascend, solve-none, solve-long, solve-writes, solve-solved}
+use Rattle.definitions.specs.Store.{Store, Call, Answer, refused, answered, empty, after, openWith, withKey, retrieve, solve, keyed, answers, candidates as candidatesIn, listing, written}
 use Rattle.meaning.specs.Stand.{Stand, stand-ample, stand-sound}
 use Rattle.meaning.specs.Confirmed.{candidates-are as walked-are}
 use Rattle.meaning.specs.Means.{call-means}
-use Rattle.meaning.specs.Quiet.{quiet, short-tables}
+use Rattle.meaning.specs.Quiet.{quiet}
+use Rattle.meaning.specs.Lengths.{short-exactly}
 use Rattle.meaning.specs.Opening.{open-number, open-run}
-use Rattle.meaning.specs.Told.{front-bytes, refused-number, retrieve-found, solve-found, room-of, room-solve}
+use Rattle.meaning.specs.Told.{front-bytes, refused-number, retrieve-found, solve-found, room-key, room-of, room-solve}
+use Rattle.meaning.specs.Room.{key-room, retrieve-room, solve-room}
 use Rattle.meaning.specs.Runs.{Reply, replyOf, Called, Run, opened, called}
 
 -- the tables stand for the store that the run leads to
@@ -63,14 +66,10 @@ demand-1 T S st c out₀ out r k d = let m = call-means T S st c out₀ out r (r
 pub demand-1-quiet : (T S : Tables) (c : Call) (out₀ out : List ℕ) (r : Reply) → Called T out₀ c S out r → r .refused ≢ 0 → (S ≡ T) × (out ≡ out₀)
 demand-1-quiet T S c out₀ out r d n = quiet T S c out₀ out r d n
 
--- refusal 1: every call gives it where a table is short (docs/TABLES.md has the lengths), whatever the tables hold; the tables of a
--- run are never short, so that demand-1 has all its numbers
-pub demand-1-table : (T S : Tables) (c : Call) (out₀ out : List ℕ) (r : Reply) → Called T out₀ c S out r → ample T ≡ false → (r .refused ≡ 1) × (S ≡ T) × (out ≡ out₀)
-demand-1-table T S c out₀ out r d a =
-    let e = short-tables T S c out₀ out r a d in let q = quiet T S c out₀ out r d (λ z. clash (sym e ∙ z)) in (e, q .0, q .1)
-  where
-    clash : _≡_ {A = ℕ} 1 0 → ⊥
-    clash z = omega arith
+-- refusal 1, on all tables: exactly where one is short (docs/TABLES.md has the lengths), whatever they hold; the tables of a run are
+-- never short, so that demand-1 has all its numbers
+pub demand-1-table : (T S : Tables) (c : Call) (out₀ out : List ℕ) (r : Reply) → Called T out₀ c S out r → (r .refused ≡ 1) ↔ (ample T ≡ false)
+demand-1-table T S c out₀ out r d = short-exactly T S c out₀ out r d
 
 pub demand-1-run : (T : Tables) (st : Store) → Run T st → ample T ≡ true
 demand-1-run T st k = stand-ample T st (run-stands T st k)
@@ -82,6 +81,31 @@ demand-1-open T S sig out₀ out r d a = open-number T S sig out₀ out r a d
 
 pub demand-1-begins : (T S : Tables) (sig out₀ out : List ℕ) (r : Reply) → Called T out₀ (openWith sig) S out r → ample T ≡ true → sigRefusal sig ≡ 0 → Run S (empty sig)
 demand-1-begins T S sig out₀ out r d a z = opened T S sig out₀ out r d (open-number T S sig out₀ out r a d ∙ z)
+
+-- on a run, a number is given exactly where the store's answer is that refusal
+pub demand-1-number : (T S : Tables) (st : Store) (c : Call) (out₀ out : List ℕ) (r : Reply) (n : ℕ) → Run T st → Called T out₀ c S out r → n ≢ 0
+    → (r .refused ≡ n) ↔ (answered st c ≡ refused n)
+demand-1-number T S st c out₀ out r n k d z =
+    let m = call-means T S st c out₀ out r (run-stands T st k) d in
+    ((λ e. refused-number (answered st c) n z (sym (ap (λ (x : Reply). x .refused) (m .reply)) ∙ e)), (λ e. ap (λ (x : Reply). x .refused) (m .reply ∙ ap replyOf e)))
+
+-- refusal 15, 'the answer buffer is shorter than the answer', where no lower number is given. The answers and the slots with a key
+-- are each slot once (answers-are, answers-ascend, keyed-are, keyed-ascend in Readable), two bytes a slot.
+pub demand-1-room-key : (T S : Tables) (st : Store) (room : ℕ) (key out₀ out : List ℕ) (r : Reply) → Run T st → Called T out₀ (withKey key room) S out r
+    → (r .refused ≡ 15) ↔ ((isKey (st .signature) key ≡ true) × (length out₀ < 2 * length (keyed st key)))
+demand-1-room-key T S st room key out₀ out r k d =
+    rw (← room-key T S out₀ room key out r d) (Iff·trans (demand-1-number T S st (withKey key room) out₀ out r 15 k d (λ z. omega arith)) (key-room st room key))
+
+pub demand-1-room-retrieve : (T S : Tables) (st : Store) (relation room : ℕ) (q out₀ out : List ℕ) (r : Reply) → Run T st → Called T out₀ (retrieve relation q room) S out r
+    → (r .refused ≡ 15) ↔ ((relation ≤ 4) × (refusal (st .signature) q ≡ 0) × (length out₀ < 2 * length (answers st relation q)))
+demand-1-room-retrieve T S st relation room q out₀ out r k d =
+    rw (← room-of T S out₀ relation room q out r d) (Iff·trans (demand-1-number T S st (retrieve relation q room) out₀ out r 15 k d (λ z. omega arith)) (retrieve-room st room relation q))
+
+pub demand-1-room-solve : (T S : Tables) (st : Store) (s room : ℕ) (q out₀ out : List ℕ) (r : Reply) → Run T st → Called T out₀ (solve s q room) S out r
+    → (r .refused ≡ 15)
+    ↔ ((t : List ℕ) × (w : List ℕ) × (i : IsRecord (st .signature) t q w) × (st .held s ≡ some t) × (refusal (st .signature) q ≡ 0) × Short (i .by) × (length out₀ < length w))
+demand-1-room-solve T S st s room q out₀ out r k d =
+    rw (← room-solve T S out₀ s room q out r d) (Iff·trans (demand-1-number T S st (solve s q room) out₀ out r 15 k d (λ z. omega arith)) (solve-room st room (run-sound T st k) s q))
 
 -- DEMAND 2. 'After any run of opening, inserts and deletes, a retrieval lists exactly the slots whose term stands in the asked
 -- relation, each once, ascending. The candidates before confirmation are those of the path formulas of SRI Technical Note 473.'
@@ -130,14 +154,7 @@ demand-2-candidates T st relation q k c s =
 pub demand-3-none : (T S : Tables) (st : Store) (s room : ℕ) (t q out₀ out : List ℕ) (r : Reply) → Run T st → st .held s ≡ some t → refusal (st .signature) q ≡ 0
     → Called T out₀ (solve s q room) S out r → (r .refused ≡ 13) ↔ (Unifiable (st .signature) t q → ⊥)
 demand-3-none T S st s room t q out₀ out r k e c d =
-    let m = call-means T S st (solve s q room) out₀ out r (run-stands T st k) d in
-    let n = solve-none st (run-sound T st k) s t e q c room in (
-      (λ z. n .0 (refused-number (answered st (solve s q room)) 13 (λ y. clash y) (sym (ap (λ (x : Reply). x .refused) (m .reply)) ∙ z))),
-      (λ u. ap (λ (x : Reply). x .refused) (m .reply ∙ ap replyOf (n .1 u))),
-    )
-  where
-    clash : _≡_ {A = ℕ} 13 0 → ⊥
-    clash z = omega arith
+    Iff·trans (demand-1-number T S st (solve s q room) out₀ out r 13 k d (λ z. omega arith)) (solve-none st (run-sound T st k) s t e q c room)
 
 -- 'however large': no size occurs here. A stored term and a question have 1 to 32 items; values may have any size, and one of over
 -- 2,048 items is refusal 14, never 13.
@@ -174,24 +191,11 @@ demand-3 T S st s room t q out₀ out r k e c d z =
 pub demand-3-long : (T S : Tables) (st : Store) (s room : ℕ) (t q out₀ out : List ℕ) (r : Reply) → Run T st → st .held s ≡ some t → refusal (st .signature) q ≡ 0
     → Called T out₀ (solve s q room) S out r → (r .refused ≡ 14) ↔ ((θ : ℕ → List Item) × Unifier (st .signature) (items t) (shift 32 (items q)) θ × (Short θ → ⊥))
 demand-3-long T S st s room t q out₀ out r k e c d =
-    let m = call-means T S st (solve s q room) out₀ out r (run-stands T st k) d in
-    let n = solve-long st (run-sound T st k) s t e q c room in (
-      (λ z. n .0 (refused-number (answered st (solve s q room)) 14 (λ y. clash y) (sym (ap (λ (x : Reply). x .refused) (m .reply)) ∙ z))),
-      (λ u. ap (λ (x : Reply). x .refused) (m .reply ∙ ap replyOf (n .1 u))),
-    )
-  where
-    clash : _≡_ {A = ℕ} 14 0 → ⊥
-    clash z = omega arith
+    Iff·trans (demand-1-number T S st (solve s q room) out₀ out r 14 k d (λ z. omega arith)) (solve-long st (run-sound T st k) s t e q c room)
 
--- a record that is short and fits is written; one that does not fit is refused with 15
+-- a record that is short and fits is written; one that does not fit is refused with 15 (demand-1-room-solve)
 pub demand-3-written : (T S : Tables) (st : Store) (s room : ℕ) (t q out₀ out w : List ℕ) (r : Reply) → Run T st → st .held s ≡ some t → refusal (st .signature) q ≡ 0
     → Called T out₀ (solve s q room) S out r → (i : IsRecord (st .signature) t q w) → Short (i .by) → length w ≤ length out₀ → r .refused ≡ 0
 demand-3-written T S st s room t q out₀ out w r k e c d i h l =
     let m = call-means T S st (solve s q room) out₀ out r (run-stands T st k) d in
     ap (λ (x : Reply). x .refused) (m .reply ∙ ap replyOf (solve-writes st (run-sound T st k) s t e q c room w i h (omega (arith, l, room-solve T S out₀ s room q out r d))))
-
-pub demand-3-room : (T S : Tables) (st : Store) (s room : ℕ) (t q out₀ out w : List ℕ) (r : Reply) → Run T st → st .held s ≡ some t → refusal (st .signature) q ≡ 0
-    → Called T out₀ (solve s q room) S out r → (i : IsRecord (st .signature) t q w) → Short (i .by) → length out₀ < length w → r .refused ≡ 15
-demand-3-room T S st s room t q out₀ out w r k e c d i h l =
-    let m = call-means T S st (solve s q room) out₀ out r (run-stands T st k) d in
-    ap (λ (x : Reply). x .refused) (m .reply ∙ ap replyOf (solve-room st (run-sound T st k) s t e q c room w i h (omega (arith, l, room-solve T S out₀ s room q out r d))))

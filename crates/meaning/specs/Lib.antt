@@ -5,10 +5,13 @@ pub mod Keyed
 pub mod Solved
 pub mod Confirmed
 pub mod Changing
+pub mod Outcomes
 pub mod Runs
 pub mod Means
 pub mod Quiet
+pub mod Lengths
 pub mod Opening
 pub mod Told
+pub mod Room
 pub mod Demands
 pub mod Rejected

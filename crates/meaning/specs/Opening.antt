@@ -16,12 +16,8 @@ use Rattle.store.specs.declared.Opened.the-variants as Opened
 use Rattle.definitions.specs.Store.{openWith, empty}
 use Rattle.meaning.specs.Stand.{Stand}
 use Rattle.meaning.specs.Changing.{open-stand}
-use Rattle.meaning.specs.Quiet.{short-tables}
+use Rattle.meaning.specs.Lengths.{open-number as open-told, short-exactly}
 use Rattle.meaning.specs.Runs.{Reply, openReply, Called, opens}
-
-open-told : (x : Opened) (S : Tables) → openReply x .refused ≡ openOutcome x S .refused
-open-told Opened.Open S = refl
-open-told (Opened.Refused why) S = refl
 
 open-left : (x : Opened) (S : Tables) → openOutcome x S .after ≡ S
 open-left Opened.Open S = refl
@@ -52,4 +48,4 @@ open-run T S sig out₀ out r (opens sig′ X x e) z = go (ample T) refl
         let n : sigRefusal sig′ ≡ 0 = sym (open-number T X sig′ out₀ out₀ (openReply x) a (opens sig′ X x e)) ∙ z in
         let w : opening T sig′ .after ≡ X = sym (ap (λ (o : Outcome). o .after) e) ∙ open-left x X in
         rw w at (stands T sig′ a n)
-    go false a = absurd (let y = sym (short-tables T X (openWith sig′) out₀ out₀ (openReply x) a (opens sig′ X x e)) ∙ z in let q : _≡_ {A = ℕ} 1 0 = y in omega arith)
+    go false a = absurd (let y = sym (short-exactly T X (openWith sig′) out₀ out₀ (openReply x) (opens sig′ X x e) .1 a) ∙ z in let q : _≡_ {A = ℕ} 1 0 = y in omega arith)

@@ -1,11 +1,10 @@
--- Document 01, 'Numbers of refusal': a refused call changes no byte, on all tables; refusal 1 is about the tables' lengths alone.
+-- Document 01, 'Numbers of refusal': a refused call changes no byte, on all tables.
 use Prim.Native.Nat.{ℕ, _*_}
-use mathlib.Core.Path.{_≡_, refl, sym, ap, _∙_}
+use mathlib.Core.Path.{_≡_, refl, ap, _∙_}
 use mathlib.Core.Logic.{_≢_}
 use mathlib.Core.Bool.{Bool, true, false}
 use mathlib.Core.List.{List}
 use native.Mathlib.Decide.{ℕ-discrete}
-use native.Mathlib.Omega.{arith}
 use lib.Dec.{ltb, eqb}
 use lib.ListN.{length}
 use Rattle.laws.specs.Choice.{pick}
@@ -16,7 +15,7 @@ use Rattle.theory.specs.Items.{items, shift}
 use Rattle.layout.specs.Tables.{Tables, ample}
 use Rattle.layout.specs.Layout.{signatureOf, isUsed, termOf}
 use Rattle.store.specs.Tables.{upsOf, endsOf, roomFor, openedWith, freeSlot, insertedAt, deletedAt, slotsWith}
-use Rattle.store.specs.Calls.{Outcome, done, refusedBy, openOutcome, insertOutcome, deleteOutcome, Listing, listing, keyListing, opening, inserting, deleting, asking}
+use Rattle.store.specs.Calls.{Outcome, done, refusedBy, Listing, listing, opening, inserting, deleting, asking}
 use Rattle.store.specs.declared.Opened.{Opened}
 use Rattle.store.specs.declared.Opened.the-variants as Opened
 use Rattle.store.specs.declared.Inserted.{Inserted}
@@ -26,11 +25,11 @@ use Rattle.unify.specs.declared.Recorded.{Recorded}
 use Rattle.unify.specs.Whole.{Promise}
 use Rattle.retrieve.specs.declared.Retrieved.{Retrieved}
 use Rattle.retrieve.specs.declared.Solved.{Solved}
-use Rattle.retrieve.specs.Retrieving.{Found, foundOf, retrieving, Retrieving}
+use Rattle.retrieve.specs.Retrieving.{Found, retrieving, Retrieving}
 use Rattle.retrieve.specs.Retrieving as Retrieving
-use Rattle.retrieve.specs.Solving.{solvedNumber, unsolvable, solvedBy, Solving}
+use Rattle.retrieve.specs.Solving.{unsolvable, solvedBy, Solving}
 use Rattle.definitions.specs.Store.{Call}
-use Rattle.meaning.specs.Runs.{Reply, openReply, insertReply, deleteReply, keyReply, retrieveReply, solveReply, Called, opens, inserts, deletes, asks, retrieves, solves}
+use Rattle.meaning.specs.Runs.{Reply, solveReply, Called, opens, inserts, deletes, asks, retrieves, solves}
 
 -- refused outcomes leave the tables
 abbrev Leaves : Tables → Outcome → Type 0
@@ -118,43 +117,3 @@ quiet T S c out₀ out r (retrieves n q o (Retrieved.Listed m a) e) h = absurd (
 quiet T S c out₀ out r (retrieves n q o (Retrieved.Refused why) e) h =
     (refl, ap (λ (f : Found). f .out) (e .is) ∙ find-leaves T n q (e .answers) out₀ (λ z. h (ap (λ (f : Found). f .refused) (e .is) ∙ z)))
 quiet T S c out₀ out r (solves s q o x e) h = (refl, solve-leaves T s q out₀ o x e h)
-
--- REFUSAL 1, exactly where a table is short; no opening is asked for
-pub short-tables : (T S : Tables) (c : Call) (out₀ out : List ℕ) (r : Reply) → ample T ≡ false → Called T out₀ c S out r → r .refused ≡ 1
-unfolding opening inserting deleting asking retrieving unsolvable
-short-tables T S c out₀ out r a (opens sig X x e) = go x (rw a at e)
-  where
-    go : (x : Opened) → openOutcome x X ≡ refusedBy 1 T → openReply x .refused ≡ 1
-    go Opened.Open e = ap (λ (o : Outcome). o .refused) e
-    go (Opened.Refused why) e = ap (λ (o : Outcome). o .refused) e
-short-tables T S c out₀ out r a (inserts t X x e) = go x (rw a at e)
-  where
-    go : (x : Inserted) → insertOutcome x X ≡ refusedBy 1 T → insertReply x .refused ≡ 1
-    go (Inserted.Slot s) e = ap (λ (o : Outcome). o .refused) e
-    go (Inserted.Refused why) e = ap (λ (o : Outcome). o .refused) e
-short-tables T S c out₀ out r a (deletes s X x e) = go x (rw a at e)
-  where
-    go : (x : Deleted) → deleteOutcome x X ≡ refusedBy 1 T → deleteReply x .refused ≡ 1
-    go (Deleted.Slot s) e = ap (λ (o : Outcome). o .refused) e
-    go (Deleted.Refused why) e = ap (λ (o : Outcome). o .refused) e
-short-tables T S c out₀ out r a (asks k o x e) = go x (rw a at e)
-  where
-    go : (x : Listed) → keyListing x o ≡ listing 1 0 out₀ → keyReply x .refused ≡ 1
-    go (Listed.Slots n) e = ap (λ (l : Listing). l .refused) e
-    go (Listed.Refused why) e = ap (λ (l : Listing). l .refused) e
-short-tables T S c out₀ out r a (retrieves n q o x e) = go x (rw a at (e .is))
-  where
-    go : (x : Retrieved) → foundOf x o ≡ Retrieving.refusedBy 1 out₀ → retrieveReply x .refused ≡ 1
-    go (Retrieved.Listed m k) e = ap (λ (f : Found). f .refused) e
-    go (Retrieved.Refused why) e = ap (λ (f : Found). f .refused) e
-short-tables T S c out₀ out r a (solves s q o x e) = number x (e .early (λ z. clash (sym one ∙ z)) .0 ∙ one)
-  where
-    one : unsolvable T s q ≡ 1
-    one = rw a
-
-    clash : _≡_ {A = ℕ} 1 0 → ⊥
-    clash z = omega arith
-
-    number : (y : Solved) → solvedNumber y ≡ 1 → solveReply y .refused ≡ 1
-    number (Solved.Record m n) z = z
-    number (Solved.Refused why) z = z

@@ -17,11 +17,11 @@ use Rattle.definitions.specs.Decisions.{bindings?}
 use Rattle.definitions.specs.Records.{recordOf, countOf}
 use Rattle.definitions.specs.Sound.{Sound}
 use Rattle.definitions.specs.Readable.{use-held}
-use Rattle.definitions.specs.Store.{Store, Answer, refused, found, solved, answered, answers, candidates, recorded, longFrom, listing, retrieve, solve}
+use Rattle.definitions.specs.Store.{Store, Answer, refused, found, solved, answered, answers, candidates, recorded, longFrom, listing, withKey, retrieve, solve}
 use Rattle.definitions.specs.Store as Abstract
 use Rattle.meaning.specs.Lists.{listing-length}
 use Rattle.meaning.specs.Solved.{front-sets}
-use Rattle.meaning.specs.Runs.{Reply, replyOf, Called, retrieves, solves}
+use Rattle.meaning.specs.Runs.{Reply, replyOf, Called, asks, retrieves, solves}
 
 -- the first bytes of a list replaced
 pub front-bytes : (w out : List ℕ) → length w ≤ length out → sets out 0 w ≡ w ++ drop (length w) out
@@ -84,6 +84,9 @@ solve-found st g s room t q e c z = go (bindings? (st .signature) t q) is (sym (
     go (some B) h y = last B (longFrom (full B) 64 0) (ltb room (length (recordOf (full B)))) h y
 
 -- the room of a call is the length of its buffer
+pub room-key : (T S : Tables) (out₀ : List ℕ) (room : ℕ) (key out : List ℕ) (r : Reply) → Called T out₀ (withKey key room) S out r → room ≡ length out₀
+room-key T S out₀ room key out r (asks k o x e) = refl
+
 pub room-of : (T S : Tables) (out₀ : List ℕ) (relation room : ℕ) (q out : List ℕ) (r : Reply) → Called T out₀ (retrieve relation q room) S out r → room ≡ length out₀
 room-of T S out₀ relation room q out r (retrieves n p o x e) = refl
 
