@@ -1,5 +1,6 @@
 use Prim.Native.Nat.{_-_}
 use mathlib.Core.Path.{sym, _∙_}
+use native.Mathlib.Omega.{arith}
 use borrow.Author.Needs.{needs}
 use borrow.Author.Tests.{not-true, not-false}
 use Rattle.layout.proofs.Laws.{long}
@@ -83,7 +84,7 @@ put-signature-requires c κs = let L = long _ _ _ _ _ _ _ _ (sym ((c .before .be
 
 clear64-requires : tie.Need-clear64-requires
 clear64-requires c κs = let L = long _ _ _ _ _ _ _ _ (sym ((c .before .before .before .before .before .before .before .before .before .long-enough) .ensures) ∙ not-false ((c .before .before .before .before .before .before .before .before .before .long-enough) .result) ((c .before .before .before .before .before .before .before .before .if1) .left)) in
-    L .used
+    omega (arith, L .used)
 
 clear-index-requires : tie.Need-clear-index-requires
 clear-index-requires c κs = let L = long _ _ _ _ _ _ _ _ (sym ((c .before .before .before .before .before .before .before .before .before .before .before .before .before .before .before .before .before .before .long-enough) .ensures) ∙ not-false ((c .before .before .before .before .before .before .before .before .before .before .before .before .before .before .before .before .before .before .long-enough) .result) ((c .before .before .before .before .before .before .before .before .before .before .before .before .before .before .before .before .before .if1) .left)) in
