@@ -2,11 +2,11 @@
 -- candidate and answer agree for relations 1 to 4'.
 use Prim.Native.Nat.{ℕ, zero, suc, _+_, _-_, _≤_, _<_}
 use mathlib.Core.Path.{_≡_, refl, sym, ap, _∙_}
-use mathlib.Core.Logic.{_⊎_, inl, inr, _↔_}
+use mathlib.Core.Logic.{_⊎_, inl, inr, _↔_, ⊎-elim}
 use mathlib.Core.List.{List, [], _∷_, _++_, append-nil}
 use mathlib.Core.Bool.{Bool, true, false}
 use native.Mathlib.Omega.{arith}
-use native.Mathlib.Decide.{decLe}
+use native.Mathlib.Decide.{ℕ-discrete, decLe}
 use borrow.Author.Tests.{le-leb, lt-leb, le-ltb, lt-ltb}
 use Rattle.laws.specs.Choice.{pick}
 use Rattle.laws.specs.Members.{NoDup}
@@ -18,6 +18,7 @@ use Rattle.theory.specs.Items.{items16, items, arity, shift, codes-numbers}
 use Rattle.theory.specs.Relations.{Instance, Variant, Unifiable}
 use Rattle.definitions.specs.Trees.{treeOf}
 use Rattle.definitions.specs.Relations.{Stands}
+use Rattle.definitions.specs.Decisions.{answer}
 use Rattle.definitions.specs.Candidates.{isVariable, agree, candidate, isCandidate}
 use Rattle.definitions.specs.Spelt.{clash, tree-shaped, tree-spells}
 use Rattle.definitions.specs.LinearFlat.{Cand, done, Lin, lin-instance, lin-variant, lin-unify, cand-shift, lin-shift, shift-apart, Below}
@@ -31,6 +32,33 @@ variables (x ∷ xs) = pick (isVariable x) (x ∷ variables xs) (variables xs)
 -- no repeated variable
 abbrev pub Linear : List ℕ → Type 0
 Linear t = NoDup (variables (numbers t))
+
+-- a test for it, which is right by its type
+unfoldable pub in? : (x : ℕ) (l : List ℕ) → Dec (Members.In x l)
+in? x [] = no (λ h. h)
+in? x (y ∷ l) = go (ℕ-discrete x y) (in? x l)
+  where
+    go : Dec (x ≡ y) → Dec (Members.In x l) → Dec (Members.In x (y ∷ l))
+    go (yes e) d = yes (inl e)
+    go (no n) (yes i) = yes (inr i)
+    go (no n) (no m) = no (⊎-elim n m)
+
+unfoldable pub once? : (l : List ℕ) → Dec (NoDup l)
+once? [] = yes tt
+once? (x ∷ l) = go (in? x l) (once? l)
+  where
+    go : Dec (Members.In x l) → Dec (NoDup l) → Dec (NoDup (x ∷ l))
+    go (yes i) d = no (λ h. h .0 i)
+    go (no n) (yes d) = yes (n, d)
+    go (no n) (no m) = no (λ h. m (h .1))
+
+unfoldable pub linear? : (t : List ℕ) → Dec (Linear t)
+linear? t = once? (variables (numbers t))
+
+-- f(x0,x1) repeats no variable, f(x0,x0) does (document 01's f, symbol 2)
+linear-both : (answer (linear? (0 ∷ 2 ∷ 128 ∷ 0 ∷ 128 ∷ 1 ∷ [])) ≡ true) × (answer (linear? (0 ∷ 2 ∷ 128 ∷ 0 ∷ 128 ∷ 0 ∷ [])) ≡ false)
+unfolding linear? once? in? variables numbers ℕ-discrete
+linear-both = (refl, refl)
 
 -- the same of items
 in-variables : (y : ℕ) (xs : List ℕ) → In y (items16 xs) → Members.In (32768 + y) (variables xs)
