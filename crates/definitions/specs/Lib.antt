@@ -1,9 +1,12 @@
 pub mod Apart
+pub mod Argument
 pub mod Candidates
 pub mod Cases
 pub mod Decisions
+pub mod Declared
 pub mod Formulas
 pub mod FormulasTable
+pub mod IsKey
 pub mod KeyBytes
 pub mod Linear
 pub mod LinearFlat
