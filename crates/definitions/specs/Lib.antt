@@ -1,4 +1,6 @@
 pub mod Apart
+pub mod Applies
+pub mod AppliesLowest
 pub mod Argument
 pub mod Candidates
 pub mod Cases
