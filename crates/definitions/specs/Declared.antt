@@ -14,7 +14,7 @@ use lib.ListN.{length, getD, List·getD-eq-default}
 use borrow.Author.Tests.{lt-ltb, le-ltb, ltb-true, leb-true}
 use Rattle.laws.specs.Choice.{pick}
 use Rattle.terms.specs.Terms.{declared, itemsGood, sigRefusal, refusal}
-use Rattle.terms.proofs.Laws.{good, signed}
+use Rattle.terms.proofs.Laws.{good}
 use Rattle.theory.specs.Flat.{Item, sy, va, Terms}
 use Rattle.theory.specs.Subst.{vars, app, app-agree, In, Sub}
 use Rattle.theory.specs.Unify.{Bind, full}
