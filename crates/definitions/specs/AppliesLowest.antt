@@ -44,7 +44,8 @@ numbers-same P m n x y =
     let e = same-number (x .list) (y .list) (x .once) (y .once) (λ a. ((λ i. y .exactly a .1 (x .exactly a .0 i)), (λ i. x .exactly a .1 (y .exactly a .0 i)))) in
     sym (x .many) ∙ e ∙ y .many
 
-refused-is : (a : Answer) (n : ℕ) → (n ≡ 0 → ⊥) → refusalIn a ≡ n → a ≡ refused n
+-- a number of refusal that is not 0 is one
+pub refused-is : (a : Answer) (n : ℕ) → (n ≡ 0 → ⊥) → refusalIn a ≡ n → a ≡ refused n
 refused-is (refused m) n z e = ap refused e
 refused-is opened n z e = absurd (z (sym e))
 refused-is (slot s) n z e = absurd (z (sym e))
