@@ -1,9 +1,14 @@
 pub mod Apart
+pub mod Applies
+pub mod AppliesLowest
+pub mod Argument
 pub mod Candidates
 pub mod Cases
 pub mod Decisions
+pub mod Declared
 pub mod Formulas
 pub mod FormulasTable
+pub mod IsKey
 pub mod KeyBytes
 pub mod Linear
 pub mod LinearFlat

@@ -45,7 +45,7 @@ module _ (st : Store) (h : Sound st) where
   held-after s u o t c true e = c t e
   held-after s u o t c false e = h .checked u t e
 
-  sound-put : (s : ℕ) (o : Option (List ℕ)) → s < 512 → ((t : List ℕ) → o ≡ some t → refusal (st .signature) t ≡ 0) → Sound (put st s o)
+  pub sound-put : (s : ℕ) (o : Option (List ℕ)) → s < 512 → ((t : List ℕ) → o ≡ some t → refusal (st .signature) t ≡ 0) → Sound (put st s o)
   unfolding put
   sound-put s o l c = record {
     signed = h .signed;

@@ -99,7 +99,7 @@ module _ (sig : List ℕ) where
   shapes-firsts (suc k) nil w = tt
   shapes-firsts (suc k) (cons u us) w = (w .0, shapes-firsts k us (w .1))
 
-  shapes-others : (k : ℕ) (us : Args) → Shapes sig us → Shapes sig (others k us)
+  pub shapes-others : (k : ℕ) (us : Args) → Shapes sig us → Shapes sig (others k us)
   unfolding others Shaped
   shapes-others zero us w = w
   shapes-others (suc k) nil w = tt
@@ -288,7 +288,7 @@ module _ (sig : List ℕ) where
   pub tree-spells : (t : List ℕ) → Signed sig → refusal sig t ≡ 0 → numbers t ≡ itemsT (treeOf sig t)
   tree-spells t s h = rw (← term-tree-is t s h) (term-tree t s h .spells)
 
-  taken-term : (t : List ℕ) → Signed sig → Good sig t → refusal sig t ≡ 0
+  pub taken-term : (t : List ℕ) → Signed sig → Good sig t → refusal sig t ≡ 0
   taken-term t s g =
       let f = fine-good sig t s g in
       all-taken sig t (g .short) (λ z. omega (arith, z, g .long)) (λ z. omega (arith, z, f .even)) (g .symbols) (g .shape)

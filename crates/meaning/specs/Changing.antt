@@ -23,7 +23,8 @@ use Rattle.store.specs.Changes.{insert-holds, delete-holds}
 use Rattle.meaning.specs.Stand.{Stand, stand-ample, stand-slots, in-use}
 use Rattle.meaning.specs.Lists.{free-first}
 use Rattle.meaning.specs.Counting.{room-test}
-use Rattle.meaning.specs.Keyed.{refusalIn, countIn}
+use Rattle.definitions.specs.Applies.{refusalIn}
+use Rattle.meaning.specs.Keyed.{countIn}
 
 -- an outcome is an answer, and its tables stand for a store
 pub record Does (o : Outcome) (a : Answer) (st : Store) : Type 0 where

@@ -34,7 +34,8 @@ use Rattle.retrieve.specs.Solving.{solvedNumber, unsolvable, solvedBy, Solving}
 use Rattle.store.specs.Means.{filled, treeIn}
 use Rattle.meaning.specs.Stand.{Stand, treesOf, stand-ample, stand-slots, in-use}
 use Rattle.meaning.specs.Lists.{members-slots, listing-listed}
-use Rattle.meaning.specs.Keyed.{refusalIn, countIn}
+use Rattle.definitions.specs.Applies.{refusalIn}
+use Rattle.meaning.specs.Keyed.{countIn}
 use Rattle.meaning.specs.Solved.{stands-iff, Solves, recordAnswer, recordLength, solved-means}
 
 -- the number of candidates that an answer gives, and the four numbers and bytes of a retrieval's answer

@@ -5,8 +5,9 @@
 -- fields, bytes; the others: the slot or the count). `(x : A) × B` says that there is such an x, `↔` exactly when, `→ ⊥` not.
 -- `Called` is a call of the very functions that the programs call: each case has the `ensures` of that function (Runs.antt).
 -- `Store`, `answered` and `after` are document 01's library as functions on stores (definitions/specs/Store.antt), and
--- definitions/specs/Readable.antt says what they compute in document 01's words. `refusal sig t ≡ 0` says that t is a term
--- (definitions/specs/Spelt.antt, term-tree and tree-term). What follows an `=` is proof, and need not be read.
+-- definitions/specs/Readable.antt says what they compute in document 01's words; Applies.antt there is its table of refusals.
+-- `refusal sig t ≡ 0` says that t is a term (definitions/specs/Spelt.antt, term-tree and tree-term). What follows an `=` is proof,
+-- and need not be read.
 --
 -- That every call ends and does nothing undefined, on all bytes, numbers and lengths, is what it means that the functions are proved
 -- at all: none of the six asks anything of its caller, and the prover takes a function only with its ending, its indices and its
@@ -22,6 +23,10 @@ use native.Mathlib.Omega.{arith}
 use lib.ListN.{length, drop}
 use lib.Seq.{sets}
 use Rattle.laws.specs.Members.{In, NoDup}
+use Rattle.terms.specs.declared.Refusal.{Refusal}
+use Rattle.terms.specs.Refusals.{numberOf}
+use Rattle.terms.specs.Numbers.{number-some}
+use Rattle.terms.specs.Conditions.{Lowest}
 use Rattle.terms.specs.Terms.{sigRefusal, refusal}
 use Rattle.keys.specs.Bytes.{isKey}
 use Rattle.theory.specs.Relations.{Unifiable}
@@ -36,6 +41,8 @@ use Rattle.slots.specs.Slots.{members}
 use Rattle.retrieve.specs.Retrieving.{candidatesOf}
 use Rattle.definitions.specs.ReadBack.{Reads, readFields}
 use Rattle.definitions.specs.Sound.{Sound}
+use Rattle.definitions.specs.Applies.{Applies, AppliesNumber}
+use Rattle.definitions.specs.AppliesLowest.{refused-lowest, refused-exactly}
 use Rattle.definitions.specs.Readable.{Ascending, ascending-nodup, answers-are, answers-ascend, candidates-are, candidates-ascend, solve-none, solve-long, solve-writes, solve-solved}
 use Rattle.definitions.specs.Store.{Store, Call, Answer, refused, answered, empty, after, openWith, withKey, retrieve, solve, keyed, answers, candidates as candidatesIn, listing, written}
 use Rattle.meaning.specs.Stand.{Stand, stand-ample, stand-sound}
@@ -44,7 +51,7 @@ use Rattle.meaning.specs.Means.{call-means}
 use Rattle.meaning.specs.Quiet.{quiet}
 use Rattle.meaning.specs.Lengths.{short-exactly}
 use Rattle.meaning.specs.Opening.{open-number, open-run}
-use Rattle.meaning.specs.Told.{front-bytes, refused-number, retrieve-found, solve-found, room-key, room-of, room-solve}
+use Rattle.meaning.specs.Told.{front-bytes, reply-refusal, refused-number, retrieve-found, solve-found, room-key, room-of, room-solve}
 use Rattle.meaning.specs.Room.{key-room, retrieve-room, solve-room}
 use Rattle.meaning.specs.Runs.{Reply, replyOf, Called, Run, opened, called}
 
@@ -88,6 +95,18 @@ pub demand-1-number : (T S : Tables) (st : Store) (c : Call) (out₀ out : List 
 demand-1-number T S st c out₀ out r n k d z =
     let m = call-means T S st c out₀ out r (run-stands T st k) d in
     ((λ e. refused-number (answered st c) n z (sym (ap (λ (x : Reply). x .refused) (m .reply)) ∙ e)), (λ e. ap (λ (x : Reply). x .refused) (m .reply ∙ ap replyOf e)))
+
+-- on a run, the number given is the lowest of the refusals that apply, by the table of refusals (definitions/specs/Applies.antt), and 0
+-- where none applies: a number is given exactly when its refusal applies and none with a lower number does
+pub demand-1-lowest : (T S : Tables) (st : Store) (c : Call) (out₀ out : List ℕ) (r : Reply) → Run T st → Called T out₀ c S out r → Lowest (AppliesNumber st c) (r .refused)
+demand-1-lowest T S st c out₀ out r k d =
+    let m = call-means T S st c out₀ out r (run-stands T st k) d in
+    rw (ap (λ (x : Reply). x .refused) (m .reply) ∙ reply-refusal (answered st c)) (refused-lowest st (run-sound T st k) c)
+
+pub demand-1-exactly : (T S : Tables) (st : Store) (c : Call) (out₀ out : List ℕ) (r : Reply) (why : Refusal) → Run T st → Called T out₀ c S out r
+    → (r .refused ≡ numberOf why) ↔ (Applies st c why × ((w : Refusal) → Applies st c w → numberOf why ≤ numberOf w))
+demand-1-exactly T S st c out₀ out r why k d =
+    Iff·trans (demand-1-number T S st c out₀ out r (numberOf why) k d (number-some why)) (refused-exactly st (run-sound T st k) c why)
 
 -- refusal 15, 'the answer buffer is shorter than the answer', where no lower number is given. The answers and the slots with a key
 -- are each slot once (answers-are, answers-ascend, keyed-are, keyed-ascend in Readable), two bytes a slot.

@@ -19,6 +19,7 @@ use Rattle.definitions.specs.KeyBytes.{keyOf}
 use Rattle.paths.specs.Insert.{RK}
 use Rattle.paths.specs.Store.{Stored, KeyIn}
 use Rattle.slots.specs.Slots.{has, members, listed}
+use Rattle.definitions.specs.Applies.{refusalIn}
 use Rattle.definitions.specs.Store.{Store, holding, keyed, Answer, refused, opened, slot, slots, found, solved, withKey, fits, answered, written}
 use Rattle.layout.specs.Tables.{Tables}
 use Rattle.store.specs.Tables.{slotsWith}
@@ -40,15 +41,7 @@ holds-key st P e s = go (st .held s)
     go none = ((λ h. clash h), (λ h. absurd h))
     go (some t) = has-key (treeOf (st .signature) t) (key P e)
 
--- the number of an answer's refusal, 0 where it is none; the slot or the count that it gives; the buffer after it
-abbrev pub refusalIn : Answer → ℕ
-refusalIn (refused n) = n
-refusalIn opened = 0
-refusalIn (slot s) = 0
-refusalIn (slots l) = 0
-refusalIn (found n l) = 0
-refusalIn (solved n w) = 0
-
+-- the slot or the count that an answer gives; the buffer after it
 abbrev pub countIn : Answer → ℕ
 countIn (refused n) = 0
 countIn opened = 0

@@ -26,7 +26,8 @@ use Rattle.definitions.specs.Records.{recordOf, countOf}
 use Rattle.definitions.specs.Decisions.{bindings?}
 use Rattle.definitions.specs.Store.{Store, Call, Answer, answered, after, written, inUse, firstFree, keyCount, put, keyed, answers, candidates, recorded, solving, longFrom}
 use Rattle.definitions.specs.Store as Abstract
-use Rattle.meaning.specs.Keyed.{refusalIn, countIn, shown, asking-means}
+use Rattle.definitions.specs.Applies.{refusalIn}
+use Rattle.meaning.specs.Keyed.{countIn, shown, asking-means}
 use Rattle.meaning.specs.Confirmed.{candidatesIn, foundIn, retrieving-means, Tells, solving-means}
 use Rattle.meaning.specs.Stand.{Stand}
 use Rattle.meaning.specs.Changing.{Does, opening-does, inserting-does, deleting-does}

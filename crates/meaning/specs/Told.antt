@@ -16,6 +16,8 @@ use Rattle.layout.specs.Tables.{Tables}
 use Rattle.definitions.specs.Decisions.{bindings?}
 use Rattle.definitions.specs.Records.{recordOf, countOf}
 use Rattle.definitions.specs.Sound.{Sound}
+use Rattle.definitions.specs.Applies.{refusalIn}
+use Rattle.definitions.specs.AppliesLowest.{refused-is}
 use Rattle.definitions.specs.Readable.{use-held}
 use Rattle.definitions.specs.Store.{Store, Answer, refused, found, solved, answered, answers, candidates, recorded, longFrom, listing, withKey, retrieve, solve}
 use Rattle.definitions.specs.Store as Abstract
@@ -27,14 +29,18 @@ use Rattle.meaning.specs.Runs.{Reply, replyOf, Called, asks, retrieves, 
 pub front-bytes : (w out : List ℕ) → length w ≤ length out → sets out 0 w ≡ w ++ drop (length w) out
 front-bytes w out h = sym (front-sets w out h)
 
+-- the first number of a reply
+pub reply-refusal : (a : Answer) → replyOf a .refused ≡ refusalIn a
+reply-refusal (refused n) = refl
+reply-refusal Abstract.opened = refl
+reply-refusal (Abstract.slot s) = refl
+reply-refusal (Abstract.slots l) = refl
+reply-refusal (found n l) = refl
+reply-refusal (solved n w) = refl
+
 -- a number of refusal that is not 0 is one
 pub refused-number : (a : Answer) (n : ℕ) → (n ≡ 0 → ⊥) → replyOf a .refused ≡ n → a ≡ refused n
-refused-number (refused m) n z e = ap refused e
-refused-number Abstract.opened n z e = absurd (z (sym e))
-refused-number (Abstract.slot s) n z e = absurd (z (sym e))
-refused-number (Abstract.slots l) n z e = absurd (z (sym e))
-refused-number (found m l) n z e = absurd (z (sym e))
-refused-number (solved m w) n z e = absurd (z (sym e))
+refused-number a n z e = refused-is a n z (sym (reply-refusal a) ∙ e)
 
 -- a retrieval that is not refused
 pub record Told (st : Store) (relation room : ℕ) (q : List ℕ) : Type 0 where
