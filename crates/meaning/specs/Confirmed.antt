@@ -1,4 +1,5 @@
--- The retrievals and the solver on tables that stand for a store answer what the store answers.
+-- Document 01, 'The relations themselves' and 'The solver's record': the retrievals and the solver on tables that stand for a store
+-- answer what the store answers.
 use Prim.Native.Nat.{ℕ, _*_, _≤_, _<_}
 use mathlib.Core.Path.{_≡_, refl, sym, ap, _∙_}
 use mathlib.Core.Logic.{_↔_}

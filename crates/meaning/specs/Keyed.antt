@@ -1,4 +1,4 @@
--- The key question on tables that stand for a store answers what the store answers.
+-- Document 01, 'Paths and keys': the key question on tables that stand for a store answers what the store answers.
 use Prim.Native.Nat.{ℕ, _*_, _<_}
 use mathlib.Core.Path.{_≡_, refl}
 use mathlib.Core.Logic.{_↔_}

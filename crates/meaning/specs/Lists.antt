@@ -1,4 +1,5 @@
--- The listings of sets of slots are the listings of stores, and the smallest free slot of the words is that of the store.
+-- Serves document 01, 'Store' and 'Numbers of refusal': the listings of sets of slots are the listings of stores, and the smallest
+-- free slot of the words is that of the store.
 use Prim.Native.Nat.{ℕ, zero, suc, _+_, _-_, _*_, _≤_, _<_}
 use mathlib.Core.Path.{_≡_, refl}
 use mathlib.Core.Logic.{_↔_}

@@ -1,4 +1,4 @@
--- What a reply that is not refused tells of the store's answer.
+-- Serves demands 2 and 3 (document 01, 'What the contracts owe'): what a reply that is not refused tells of the store's answer.
 use Prim.Native.Nat.{ℕ, _*_, _≤_}
 use mathlib.Core.Path.{_≡_, refl, sym, ap, _∙_}
 use mathlib.Core.Bool.{Bool, true, false}

@@ -1,6 +1,6 @@
 -- Document 01, 'The relations themselves': substitutions, on flat terms. A value is one term by the arities, and a symbol that the
--- signature does not declare has arity 0 there; that gives nothing to unify or match with, for a most general unifier has no items
--- but those of the two terms (Fresh, `kept`), and a matcher has parts of the term that is met.
+-- signature does not declare has arity 0 there; that gives nothing to unify or match with, for exchanging such symbols leaves the
+-- values of a most general unifier alone (Fresh, `kept`), and a matcher has parts of the term that is met.
 use mathlib.Core.Path.{_≡_, refl, ap}
 use mathlib.Core.Logic.{_⊎_, inl, inr}
 use mathlib.Core.List.{List, [], _∷_, _++_, append-assoc}
