@@ -15,7 +15,7 @@ use Rattle.chains.specs.Chains.{Chains, find, foundFrom, find-sound}
 use Rattle.keys.specs.Keys.{Place, root, step, Key, key}
 use Rattle.paths.specs.Rep.{lab, lab-inj, At, top, kid, Den, Rep, find-den, find-none}
 use Rattle.paths.specs.Walk.{kidOf, upPlace, upNum, keyList}
-use Rattle.paths.specs.Insert.{DenK, Dens, Lack, none, has, new, Back, Ends, back-one}
+use Rattle.paths.specs.Insert.{DenK, Dens, Lack, done, has, new, Back, Ends, back-one}
 
 unfoldable pub numList : List ℕ → List ℕ → List ℕ → List ℕ → List ℕ → List ℕ
 numList link label ks [] es = []
@@ -114,7 +114,7 @@ module _ (link label : List ℕ) (mem : ℕ → ℕ → Type 0) (R : ℕ → Pla
 -- how many keys are missing
 pub lack-of : (label : List ℕ) (ks : List ℕ) (Ks : List Key) → DensM label ks Ks → Lack label Ks (missing ks)
 unfolding missing
-lack-of label [] [] d = none
+lack-of label [] [] d = done
 lack-of label [] (_ ∷ Ks) d = absurd d
 lack-of label (_ ∷ ks) [] d = absurd d
 lack-of label (k ∷ ks) (key P e ∷ Ks) d = go (d .0) (lack-of label ks Ks (d .1))

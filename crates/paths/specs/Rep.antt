@@ -99,7 +99,7 @@ module _ (link label : List ℕ) (mem : ℕ → ℕ → Type 0) (R : ℕ → Pla
 
 -- a free key gets the label of a place and an end that no key has
 module _ (link label : List ℕ) (mem : ℕ → ℕ → Type 0) (R : ℕ → Place → ℕ → Type 0) (r : Rep link label mem R) (n : ℕ) (P : Place) (e k : ℕ) (at : At label n P) (fits : e < 257)
-    (none : 4096 ≤ find link label (lab n e)) (low : k < 4096) (isfree : getD label k 0 ≡ 0) (len : 8190 ≤ length link) (len′ : 4096 ≤ length label) where
+    (unfound : 4096 ≤ find link label (lab n e)) (low : k < 4096) (isfree : getD label k 0 ≡ 0) (len : 8190 ≤ length link) (len′ : 4096 ≤ length label) where
   abbrev pub label′ : List ℕ
   label′ = set label k (lab n e)
 
