@@ -1,4 +1,4 @@
--- The sets of slots of 4,096 keys, eight words each, in four tables.
+-- Serves document 01, 'Paths and keys': the sets of slots of 4,096 keys, eight words each, in four tables.
 use Prim.Native.Nat.{ℕ, zero, suc, _+_, _-_, _*_, _/_, _%_, _^_, _≤_, _<_, min, max}
 use mathlib.Core.Path.{_≡_, refl, sym, ap, _∙_, subst}
 use mathlib.Core.Logic.{_⊎_, inl, inr, _↔_, ⊎-elim}

@@ -1,4 +1,5 @@
--- Where the terms of a question end, item by item, read from the last item to the first.
+-- Serves document 01, 'Paths and keys' (candidates): where the terms of a question end, item by item, read from the last item to
+-- the first.
 use Prim.Native.Nat.{ℕ, _≤_, _<_}
 use mathlib.Core.Path.{_≡_}
 use mathlib.Core.List.{List}

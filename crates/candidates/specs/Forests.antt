@@ -1,4 +1,5 @@
--- Laws of the trees that items spell: how many items they have, and how a walk passes from one to the next.
+-- Serves document 01, 'Paths and keys' (candidates): laws of the trees that items spell: how many items they have, and how a walk
+-- passes from one to the next.
 use Prim.Native.Nat.{ℕ, zero, suc, _+_, _-_, _*_, _≤_, _<_}
 use mathlib.Core.Path.{_≡_, refl, sym, ap, _∙_}
 use mathlib.Core.List.{List, [], _∷_}

@@ -1,4 +1,5 @@
--- What is in the set that the walk leaves: the walk through the tables of paths/specs/Cand.antt, slot by slot.
+-- Serves document 01, 'Paths and keys' (candidates): what is in the set that the walk leaves: the walk through the tables of
+-- paths/specs/Cand.antt, slot by slot.
 use Prim.Native.Nat.{ℕ, zero, suc, _*_, _/_, _%_, _<_, min, max}
 use mathlib.Core.Path.{_≡_, refl}
 use mathlib.Core.Logic.{_⊎_, inl, inr, _↔_, ⊎-elim}

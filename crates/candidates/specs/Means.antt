@@ -1,4 +1,5 @@
--- On tables that stand for a store the walk finds document 01's candidates: the slots whose term agrees with the question.
+-- On tables that stand for a store the walk finds the candidates of document 01, 'Paths and keys': the slots whose term agrees with
+-- the question.
 use Prim.Native.Nat.{ℕ, _<_}
 use mathlib.Core.Path.{_≡_, refl}
 use mathlib.Core.Logic.{_↔_}

@@ -1,4 +1,5 @@
--- What one call of the walk promises: over items that spell trees under a signature, it is the walk over the tree at an item.
+-- Serves document 01, 'Paths and keys' (candidates): what one call of the walk promises: over items that spell trees under a
+-- signature, it is the walk over the tree at an item.
 use Prim.Native.Nat.{ℕ}
 use mathlib.Core.Path.{_≡_}
 use mathlib.Core.List.{List}

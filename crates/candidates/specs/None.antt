@@ -1,4 +1,4 @@
--- From no slots the walk leaves none, so a walk may stop where a set is empty.
+-- Serves document 01, 'Paths and keys' (candidates): from no slots the walk leaves none, so a walk may stop where a set is empty.
 use Prim.Native.Nat.{ℕ, zero, suc, _+_, _*_, _≤_, _<_}
 use mathlib.Core.Path.{_≡_, refl, sym, ap, _∙_}
 use mathlib.Core.List.{List, [], _∷_}

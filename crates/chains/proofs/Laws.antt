@@ -8,7 +8,7 @@ use native.Mathlib.Numerals.{add-one, sub-one}
 use borrow.Author.Tests.{eq-eqb, ne-eqb}
 use native.Mathlib.Omega.{arith}
 use Rattle.laws.specs.Choice.{pick}
-use Rattle.chains.specs.Chains.{lookup, unlink, home, find, taken, pushed, relinked, longer}
+use Rattle.chains.specs.Chains.{foundFrom, unlink, home, find, taken, pushed, relinked, longer}
 
 pub home-label : (w : ℕ) → (w ≡ 0 → ⊥) → 4096 + (w - 1) % 4093 ≡ home w
 unfolding home
@@ -20,30 +20,30 @@ unfolding home
 home-free zero h = refl
 home-free (suc w) h = absurd (omega arith)
 
-pub lookup-step : (link label : List ℕ) (w f x : ℕ) → 0 < f → (x ≡ 0 → ⊥)
-    → lookup link label w f x ≡ pick (eqb (getD label ((x - 1) % 4096) 0) w) ((x - 1) % 4096) (lookup link label w (f - 1) (getD link ((x - 1) % 4096) 0))
-unfolding lookup
-lookup-step link label w zero x h n = absurd (omega arith)
-lookup-step link label w (suc f) zero h n = absurd (n refl)
-lookup-step link label w (suc f) (suc k) h n = rw (sub-one, sub-one)
+pub found-step : (link label : List ℕ) (w f x : ℕ) → 0 < f → (x ≡ 0 → ⊥)
+    → foundFrom link label w f x ≡ pick (eqb (getD label ((x - 1) % 4096) 0) w) ((x - 1) % 4096) (foundFrom link label w (f - 1) (getD link ((x - 1) % 4096) 0))
+unfolding foundFrom
+found-step link label w zero x h n = absurd (omega arith)
+found-step link label w (suc f) zero h n = absurd (n refl)
+found-step link label w (suc f) (suc k) h n = rw (sub-one, sub-one)
 
-pub lookup-none : (link label : List ℕ) (w f x : ℕ) → x ≡ 0 → lookup link label w f x ≡ 4096
-unfolding lookup
-lookup-none link label w zero x e = refl
-lookup-none link label w (suc f) zero e = refl
-lookup-none link label w (suc f) (suc k) e = absurd (omega arith)
+pub found-none : (link label : List ℕ) (w f x : ℕ) → x ≡ 0 → foundFrom link label w f x ≡ 4096
+unfolding foundFrom
+found-none link label w zero x e = refl
+found-none link label w (suc f) zero e = refl
+found-none link label w (suc f) (suc k) e = absurd (omega arith)
 
-pub lookup-out : (link label : List ℕ) (w f x : ℕ) → f ≡ 0 → lookup link label w f x ≡ 4096
-unfolding lookup
-lookup-out link label w zero x e = refl
-lookup-out link label w (suc f) x e = absurd (omega arith)
+pub found-out : (link label : List ℕ) (w f x : ℕ) → f ≡ 0 → foundFrom link label w f x ≡ 4096
+unfolding foundFrom
+found-out link label w zero x e = refl
+found-out link label w (suc f) x e = absurd (omega arith)
 
-pub lookup-hit : (link label : List ℕ) (w f x : ℕ) → 0 < f → (x ≡ 0 → ⊥) → getD label ((x - 1) % 4096) 0 ≡ w → lookup link label w f x ≡ (x - 1) % 4096
-lookup-hit link label w f x h n e = rw (eq-eqb _ _ e) at (lookup-step link label w f x h n)
+pub found-hit : (link label : List ℕ) (w f x : ℕ) → 0 < f → (x ≡ 0 → ⊥) → getD label ((x - 1) % 4096) 0 ≡ w → foundFrom link label w f x ≡ (x - 1) % 4096
+found-hit link label w f x h n e = rw (eq-eqb _ _ e) at (found-step link label w f x h n)
 
-pub lookup-miss : (link label : List ℕ) (w f x : ℕ) → 0 < f → (x ≡ 0 → ⊥) → (getD label ((x - 1) % 4096) 0 ≡ w → ⊥)
-    → lookup link label w f x ≡ lookup link label w (f - 1) (getD link ((x - 1) % 4096) 0)
-lookup-miss link label w f x h n e = rw (ne-eqb _ _ e) at (lookup-step link label w f x h n)
+pub found-miss : (link label : List ℕ) (w f x : ℕ) → 0 < f → (x ≡ 0 → ⊥) → (getD label ((x - 1) % 4096) 0 ≡ w → ⊥)
+    → foundFrom link label w f x ≡ foundFrom link label w (f - 1) (getD link ((x - 1) % 4096) 0)
+found-miss link label w f x h n e = rw (ne-eqb _ _ e) at (found-step link label w f x h n)
 
 pub unlink-step : (link : List ℕ) (k f at x : ℕ) → 0 < f → (x ≡ 0 → ⊥)
     → unlink link k f at x ≡ pick (eqb (x - 1) k) (set link at (getD link k 0)) (unlink link k (f - 1) ((x - 1) % 4096) (getD link ((x - 1) % 4096) 0))
@@ -70,7 +70,7 @@ pub unlink-miss : (link : List ℕ) (k f at x : ℕ) → 0 < f → (x ≡ 0 → 
     → unlink link k f at x ≡ unlink link k (f - 1) ((x - 1) % 4096) (getD link ((x - 1) % 4096) 0)
 unlink-miss link k f at x h n e = rw (ne-eqb _ _ e) at (unlink-step link k f at x h n)
 
-pub find-start : (link label : List ℕ) (w at x : ℕ) → at ≡ home w → x ≡ getD link at 0 → find link label w ≡ lookup link label w 4096 x
+pub find-start : (link label : List ℕ) (w at x : ℕ) → at ≡ home w → x ≡ getD link at 0 → find link label w ≡ foundFrom link label w 4096 x
 unfolding find
 find-start link label w at x e f = rw (f, e)
 

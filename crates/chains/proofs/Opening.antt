@@ -23,19 +23,19 @@ chain-turn l m n v h e p = record {
     go k a (no q) = getD-set-other m n k v 0 q ∙ p .next k (omega arith)
 
 pub heads-start : (l : List ℕ) → NoHeads l l 4095
-heads-start l = record { same = refl; none = λ k a b. absurd (omega arith); below = λ k h. refl; rest = λ k h. refl }
+heads-start l = record { same = refl; ended = λ k a b. absurd (omega arith); below = λ k h. refl; rest = λ k h. refl }
 
 pub heads-turn : (l m : List ℕ) (n : ℕ) → n < length m → 4095 ≤ n → NoHeads l m n → NoHeads l (set m n 0) (n + 1)
 heads-turn l m n h b p = record {
   same = length-set m n 0 ∙ p .same;
-  none = λ k a d. go k a d (ℕ-discrete k n);
+  ended = λ k a d. go k a d (ℕ-discrete k n);
   below = λ k a. getD-set-other m n k 0 0 (λ q. omega (arith, q)) ∙ p .below k a;
   rest = λ k a. getD-set-other m n k 0 0 (λ q. omega (arith, q)) ∙ p .rest k (omega arith);
 }
   where
     go : (k : ℕ) → 4095 ≤ k → k < n + 1 → Dec (k ≡ n) → getD (set m n 0) k 0 ≡ 0
     go k a d (yes q) = rw q (getD-set-same m n 0 0 h)
-    go k a d (no q) = getD-set-other m n k 0 0 q ∙ p .none k a (omega arith)
+    go k a d (no q) = getD-set-other m n k 0 0 q ∙ p .ended k a (omega arith)
 
 pub freed : (l m r : List ℕ) → 8190 ≤ length l → FreeChain l m 4095 → NoHeads m r 8189 → Freed l (set r 8189 1)
 freed l m r h p q =
@@ -43,7 +43,7 @@ freed l m r h p q =
     record {
       same = length-set r 8189 1 ∙ e;
       next = λ k a. getD-set-other r 8189 k 1 0 (λ z. omega (arith, z)) ∙ q .below k a ∙ p .next k a;
-      none = λ k a b. getD-set-other r 8189 k 1 0 (λ z. omega (arith, z)) ∙ q .none k a b;
+      ended = λ k a b. getD-set-other r 8189 k 1 0 (λ z. omega (arith, z)) ∙ q .ended k a b;
       first = getD-set-same r 8189 1 0 (omega (arith, e));
       rest = λ k a. getD-set-other r 8189 k 1 0 (λ z. omega (arith, z)) ∙ q .rest k (omega arith) ∙ p .rest k (omega arith);
     }

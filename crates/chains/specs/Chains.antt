@@ -1,5 +1,5 @@
--- Chains of keys through one table of links: link[k] for a key k below 4,096, and from 4,096 on where each chain starts.
--- A link is 0 at a chain's end, else one more than the key.
+-- Serves document 01, 'Store' ('freed keys are used again'): chains of keys through one table of links: link[k] for a key k below
+-- 4,096, and from 4,096 on where each chain starts. A link is 0 at a chain's end, else one more than the key.
 use Prim.Native.Nat.{ℕ, zero, suc, _+_, _%_, _≤_, _<_}
 use mathlib.Core.Path.{_≡_, refl, sym, ap, _∙_}
 use mathlib.Core.Logic.{_⊎_, inl, inr, _↔_, ⊎-elim}
@@ -21,13 +21,13 @@ home zero = 8189
 home (suc l) = 4096 + l % 4093
 
 -- the first key with label w on the chain from the link x on; 4096 where there is none
-unfoldable pub lookup : List ℕ → List ℕ → ℕ → ℕ → ℕ → ℕ
-lookup link label w zero x = 4096
-lookup link label w (suc f) zero = 4096
-lookup link label w (suc f) (suc k) = pick (eqb (getD label (k % 4096) 0) w) (k % 4096) (lookup link label w f (getD link (k % 4096) 0))
+unfoldable pub foundFrom : List ℕ → List ℕ → ℕ → ℕ → ℕ → ℕ
+foundFrom link label w zero x = 4096
+foundFrom link label w (suc f) zero = 4096
+foundFrom link label w (suc f) (suc k) = pick (eqb (getD label (k % 4096) 0) w) (k % 4096) (foundFrom link label w f (getD link (k % 4096) 0))
 
 unfoldable pub find : List ℕ → List ℕ → ℕ → ℕ
-find link label w = lookup link label w 4096 (getD link (home w) 0)
+find link label w = foundFrom link label w 4096 (getD link (home w) 0)
 
 -- the links with the key k taken off the chain that goes on at place `at` with the link x
 unfoldable pub unlink : List ℕ → ℕ → ℕ → ℕ → ℕ → List ℕ
@@ -55,19 +55,19 @@ linked-frame link link′ x xs end h = end
 linked-frame link link′ x xs (one {k = k} {xs = ys} l) h =
     one {k = k} {xs = ys} (rw (h k (inl refl)) (linked-frame link link′ _ ys l (λ j i. h j (inr i))))
 
--- the lookup finds a key of the chain with that label, if there is one
-pub lookup-sound : (link label : List ℕ) (w f x : ℕ) (xs : List ℕ) → Linked link x xs → ((k : ℕ) → In k xs → k < 4096)
-    → lookup link label w f x < 4096 → In (lookup link label w f x) xs × (getD label (lookup link label w f x) 0 ≡ w)
-unfolding lookup
-lookup-sound link label w zero x xs l b h = absurd (omega arith)
-lookup-sound link label w (suc f) x xs end b h = absurd (omega arith)
-lookup-sound link label w (suc f) x xs (one {k = k} {xs = ys} l) b h =
+-- the search finds a key of the chain with that label, if there is one
+pub found-sound : (link label : List ℕ) (w f x : ℕ) (xs : List ℕ) → Linked link x xs → ((k : ℕ) → In k xs → k < 4096)
+    → foundFrom link label w f x < 4096 → In (foundFrom link label w f x) xs × (getD label (foundFrom link label w f x) 0 ≡ w)
+unfolding foundFrom
+found-sound link label w zero x xs l b h = absurd (omega arith)
+found-sound link label w (suc f) x xs end b h = absurd (omega arith)
+found-sound link label w (suc f) x xs (one {k = k} {xs = ys} l) b h =
     let e : k % 4096 ≡ k = mod-eq-of-lt (b k (inl refl)) in
     let h′ = rw e at h in
-    rw e (go (ℕ-discrete (getD label k 0) w) h′ (lookup-sound link label w f (getD link k 0) ys l (λ j i. b j (inr i))))
+    rw e (go (ℕ-discrete (getD label k 0) w) h′ (found-sound link label w f (getD link k 0) ys l (λ j i. b j (inr i))))
   where
     r : ℕ
-    r = lookup link label w f (getD link k 0)
+    r = foundFrom link label w f (getD link k 0)
 
     P : ℕ → Type 0
     P m = In m (k ∷ ys) × (getD label m 0 ≡ w)
@@ -76,17 +76,17 @@ lookup-sound link label w (suc f) x xs (one {k = k} {xs = ys} l) b h =
     go (yes e) g ih = rw (eq-eqb _ _ e) (inl refl, e)
     go (no n) g ih = let g′ = rw (ne-eqb _ _ n) at g in rw (ne-eqb _ _ n) (inr (ih g′ .0), ih g′ .1)
 
-pub lookup-complete : (link label : List ℕ) (w f x : ℕ) (xs : List ℕ) → Linked link x xs → ((k : ℕ) → In k xs → k < 4096)
-    → length xs ≤ f → (k : ℕ) → In k xs → getD label k 0 ≡ w → lookup link label w f x < 4096
-unfolding lookup
-lookup-complete link label w f x xs end b n k i e = absurd i
-lookup-complete link label w zero x xs (one l) b n k i e = absurd (omega arith)
-lookup-complete link label w (suc f) x xs (one {k = j} {xs = ys} l) b n k i e =
+pub found-complete : (link label : List ℕ) (w f x : ℕ) (xs : List ℕ) → Linked link x xs → ((k : ℕ) → In k xs → k < 4096)
+    → length xs ≤ f → (k : ℕ) → In k xs → getD label k 0 ≡ w → foundFrom link label w f x < 4096
+unfolding foundFrom
+found-complete link label w f x xs end b n k i e = absurd i
+found-complete link label w zero x xs (one l) b n k i e = absurd (omega arith)
+found-complete link label w (suc f) x xs (one {k = j} {xs = ys} l) b n k i e =
     let m : j % 4096 ≡ j = mod-eq-of-lt (b j (inl refl)) in
-    rw m (go (ℕ-discrete (getD label j 0) w) i (λ i′. lookup-complete link label w f (getD link j 0) ys l (λ j i. b j (inr i)) (omega arith) k i′ e))
+    rw m (go (ℕ-discrete (getD label j 0) w) i (λ i′. found-complete link label w f (getD link j 0) ys l (λ j i. b j (inr i)) (omega arith) k i′ e))
   where
-    go : Dec (getD label j 0 ≡ w) → In k (j ∷ ys) → (In k ys → lookup link label w f (getD link j 0) < 4096)
-        → pick (eqb (getD label j 0) w) j (lookup link label w f (getD link j 0)) < 4096
+    go : Dec (getD label j 0 ≡ w) → In k (j ∷ ys) → (In k ys → foundFrom link label w f (getD link j 0) < 4096)
+        → pick (eqb (getD label j 0) w) j (foundFrom link label w f (getD link j 0)) < 4096
     go (yes e′) i ih = rw (eq-eqb _ _ e′) (b j (inl refl))
     go (no n) (inl q) ih = absurd (n (rw q at e))
     go (no n) (inr i) ih = rw (ne-eqb _ _ n) (ih i)
@@ -156,12 +156,12 @@ home-low (suc l) = (omega arith, omega arith)
 pub find-sound : (link label : List ℕ) (w : ℕ) → Chains link label 4096 → find link label w < 4096 → getD label (find link label w) 0 ≡ w
 unfolding find Chains
 find-sound link label w c h = let d = c (home w) (home-low w .0) (home-low w .1) in
-    lookup-sound link label w 4096 (getD link (home w) 0) (d .keys) (d .linked) (λ k i. d .from k i .0) h .1
+    found-sound link label w 4096 (getD link (home w) 0) (d .keys) (d .linked) (λ k i. d .from k i .0) h .1
 
 pub find-complete : (link label : List ℕ) (w k : ℕ) → Chains link label 4096 → k < 4096 → getD label k 0 ≡ w → find link label w < 4096
 unfolding find Chains
 find-complete link label w k c h e = let d = c (home w) (home-low w .0) (home-low w .1) in
-    lookup-complete link label w 4096 (getD link (home w) 0) (d .keys) (d .linked) (λ k i. d .from k i .0)
+    found-complete link label w 4096 (getD link (home w) 0) (d .keys) (d .linked) (λ k i. d .from k i .0)
     (nodup-bound 4096 (d .keys) (d .nodup) (λ k i. d .from k i .0)) k (d .into k h (ap home e) (λ z. omega arith)) e
 
 -- k taken off its chain

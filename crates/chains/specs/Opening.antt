@@ -1,4 +1,4 @@
--- The table of links as an opening leaves it: every key free, in order, and every other chain empty.
+-- Serves document 01, 'Store': the table of links as an opening leaves it: every key free, in order, and every other chain empty.
 use Prim.Native.Nat.{ℕ, suc, _+_, _≤_, _<_}
 use mathlib.Core.Path.{_≡_}
 use mathlib.Core.List.{List}
@@ -13,13 +13,13 @@ pub record FreeChain (l m : List ℕ) (n : ℕ) : Type 0 where
 -- the links from the last key's to below n are 0; the rest is as it was
 pub record NoHeads (l m : List ℕ) (n : ℕ) : Type 0 where
   pub same : length m ≡ length l
-  pub none : (k : ℕ) → 4095 ≤ k → k < n → getD m k 0 ≡ 0
+  pub ended : (k : ℕ) → 4095 ≤ k → k < n → getD m k 0 ≡ 0
   pub below : (k : ℕ) → k < 4095 → getD m k 0 ≡ getD l k 0
   pub rest : (k : ℕ) → n ≤ k → getD m k 0 ≡ getD l k 0
 
 pub record Freed (l m : List ℕ) : Type 0 where
   pub same : length m ≡ length l
   pub next : (k : ℕ) → k < 4095 → getD m k 0 ≡ k + 2
-  pub none : (k : ℕ) → 4095 ≤ k → k < 8189 → getD m k 0 ≡ 0
+  pub ended : (k : ℕ) → 4095 ≤ k → k < 8189 → getD m k 0 ≡ 0
   pub first : getD m 8189 0 ≡ 1
   pub rest : (k : ℕ) → 8190 ≤ k → getD m k 0 ≡ getD l k 0

@@ -26,7 +26,7 @@ module _ (sig t q : List ℕ) (s : sigRefusal sig ≡ 0) (a : refusal sig t ≡ 
   pub variables-apart : (w : ℕ) → In w (items t) → In w (shift 32 (items q)) → ⊥
   variables-apart w i j = shift-apart 32 (items t) (items q) (term-below sig t (fine sig t s a)) w i j
 
-  -- a number below 32 is written for the stored variable of that number
+  -- a variable of the stored term keeps its number, which is below 32
   pub stored-number : (w : ℕ) → In w (items t) → w < 32
   stored-number w i = term-below sig t (fine sig t s a) w i
 

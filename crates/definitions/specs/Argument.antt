@@ -7,9 +7,9 @@ use mathlib.Core.List.{List, [], _∷_, _++_}
 use lib.ListN.{length, getD, take, drop, take-append-drop, length-take, length-drop}
 use lib.Seq.{drop-drop}
 use Rattle.keys.specs.Keys.{Tm, Args, node, nil, cons}
-use Rattle.terms.specs.Terms.{numbers, span, Signed, head, argRefusal, argBytes, argStart}
+use Rattle.terms.specs.Terms.{numbers, span, Signed, firstItem, argRefusal, argBytes, argStart}
 use Rattle.terms.proofs.Laws.{arg-none, length-numbers}
-use Rattle.definitions.specs.Trees.{count, itemsT, itemsA, Shaped, firsts, others, treeOf}
+use Rattle.definitions.specs.Trees.{countArgs, itemsT, itemsA, Shaped, firsts, others, treeOf}
 use Rattle.definitions.specs.Spelt.{shapes-others, parts, shaped-count, tree-shaped, tree-spells, taken-term}
 
 -- t is the bytes of the term with root x and arguments us: they are what stands before argument i, its bytes, and what follows.
@@ -25,21 +25,21 @@ pub record Placed (sig t : List ℕ) (i x : ℕ) (us : Args) : Type 0 where
 cut-back : (s n : ℕ) (t : List ℕ) → t ≡ take s t ++ (take n (drop s t) ++ drop n (drop s t))
 cut-back s n t = sym (take-append-drop s t) ∙ ap (λ (r : List ℕ). take s t ++ r) (sym (take-append-drop n (drop s t)))
 
-root-told : (x : ℕ) (us : Args) (t : List ℕ) → numbers t ≡ itemsT (node x us) → (head t ≡ x) × (numbers (drop 2 t) ≡ itemsA us)
+root-told : (x : ℕ) (us : Args) (t : List ℕ) → numbers t ≡ itemsT (node x us) → (firstItem t ≡ x) × (numbers (drop 2 t) ≡ itemsA us)
 unfolding numbers itemsT
 root-told x us [] e = absurd (let z : _≡_ {A = ℕ} 0 1 = cc in omega arith)
 root-told x us (a ∷ []) e = absurd (let z : _≡_ {A = ℕ} 0 1 = cc in omega arith)
 root-told x us (a ∷ b ∷ t) e = ((cc), (cc))
 
 -- the root's item, and what is taken behind it
-root-taken : (t : List ℕ) (n : ℕ) → 2 ≤ length t → numbers (take (2 + n) t) ≡ head t ∷ numbers (take n (drop 2 t))
+root-taken : (t : List ℕ) (n : ℕ) → 2 ≤ length t → numbers (take (2 + n) t) ≡ firstItem t ∷ numbers (take n (drop 2 t))
 unfolding numbers
 root-taken [] n l = absurd (omega (arith, l))
 root-taken (a ∷ []) n l = absurd (omega (arith, l))
 root-taken (a ∷ b ∷ t) n l = let e : 2 + n ≡ suc (suc n) = omega arith in rw e
 
-others-next : (k : ℕ) (us : Args) → k < count us → (others 1 (others k us) ≡ others (suc k) us) × (1 ≤ count (others k us))
-unfolding others count
+others-next : (k : ℕ) (us : Args) → k < countArgs us → (others 1 (others k us) ≡ others (suc k) us) × (1 ≤ countArgs (others k us))
+unfolding others countArgs
 others-next k nil l = absurd (omega arith)
 others-next zero (cons u us) l = (refl, omega arith)
 others-next (suc k) (cons u us) l = others-next k us (omega arith)
@@ -53,7 +53,7 @@ module _ (sig t : List ℕ) (i : ℕ) (s : Signed sig) (h : argRefusal sig t i �
       let g = taken-term sig t s (n .0) in
       let w : Shaped sig (node x us) = subst (λ (u : Tm). Shaped sig u) e (tree-shaped sig t s g) in
       let r = root-told x us t (tree-spells sig t s g ∙ ap itemsT e) in
-      let c : count us ≡ getD sig (head t) 0 = shaped-count sig (s .short) x us w ∙ ap (λ (z : ℕ). getD sig z 0) (sym (r .0)) in
+      let c : countArgs us ≡ getD sig (firstItem t) 0 = shaped-count sig (s .short) x us w ∙ ap (λ (z : ℕ). getD sig z 0) (sym (r .0)) in
       let k : ℕ = i - 1 in
       let D = drop 2 t in
       let p = parts sig (s .short) D k us (w .1) (omega (arith, c, n .2)) (r .1) in

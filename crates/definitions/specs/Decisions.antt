@@ -1,4 +1,5 @@
--- Functions that decide the five relations, proved against their definitions: matching and Robinson's method.
+-- Document 01, 'The relations themselves' and 'The solver's record': functions that decide the five relations and compute the
+-- record, proved against their definitions: matching and Robinson's method.
 use Prim.Native.Nat.{ℕ, zero, suc}
 use native.Mathlib.Decide.{ℕ-discrete}
 use native.Mathlib.Omega.{arith}

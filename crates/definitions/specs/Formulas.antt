@@ -1,4 +1,5 @@
--- Document 001, section 3: the formulas of path indexing, as it writes them. A set of stored terms is a test of slots.
+-- Document 001, section 3: the formulas of path indexing, as it writes them. A set of stored terms is a test of slots. Document 01,
+-- 'Paths and keys', reads its candidates from them: 'These are 001's formulas read for one term'.
 use Prim.Native.Nat.{ℕ, suc}
 use mathlib.Core.List.{List}
 use mathlib.Core.Bool.{Bool, true, false}

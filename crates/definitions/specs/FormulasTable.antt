@@ -1,4 +1,5 @@
--- The formulas of document 001 and the table of document 01 give the same candidates. One formula with two switches serves the proof.
+-- The formulas of document 001 and the table of document 01, 'Paths and keys', give the same candidates. One formula with two
+-- switches serves the proof.
 use Prim.Native.Nat.{ℕ, suc, _+_, _<_}
 use mathlib.Core.Path.{_≡_, refl, sym, ap, _∙_}
 use mathlib.Core.Logic.{_⊎_, inl, inr, _↔_}
@@ -13,7 +14,7 @@ use lib.ListN.{getD}
 use Rattle.laws.specs.Choice.{pick}
 use Rattle.keys.specs.Keys.{Tm, Args, node, nil, cons, Place, root, step, Key, key, endOf, subAt, down, nth, topOf, HasKey, down-some}
 use Rattle.terms.specs.Terms.{Signed, refusal}
-use Rattle.definitions.specs.Trees.{count, Symbol, Variable, Shaped, Shapes, treeOf}
+use Rattle.definitions.specs.Trees.{countArgs, IsSymbol, Variable, Shaped, Shapes, treeOf}
 use Rattle.definitions.specs.Candidates.{isVariable, agree, agreeAll, opens, stars, candidate, isCandidate}
 use Rattle.definitions.specs.Formulas.{Held, Set, union, meet, star, isTop, hasKey, holdsKey, isHeld, terms, getTerms, noArguments, form, allVariables, getVariants, eachVariants, getInstances, eachInstances, getGeneralizations, eachGeneralizations, getUnifiables, eachUnifiables, formula, stays, treeIn, trees, staysBytes}
 use Rattle.definitions.specs.Spelt.{clash, shaped-count, tree-shaped}
@@ -190,7 +191,7 @@ kind : (sig : List ℕ) → Signed sig → (x : ℕ) (us : Args) → Shaped sig 
 unfolding Shaped endOf
 kind sig g x us w = go (w .0)
   where
-    go : (Symbol sig x × (count us ≡ getD sig x 0)) ⊎ (Variable x × (count us ≡ 0)) → ((leb 32768 x ≡ true) × (pick (leb 32768 x) 256 x ≡ 256)) ⊎ ((leb 32768 x ≡ false) × (pick (leb 32768 x) 256 x ≡ x) × (x < 256))
+    go : (IsSymbol sig x × (countArgs us ≡ getD sig x 0)) ⊎ (Variable x × (countArgs us ≡ 0)) → ((leb 32768 x ≡ true) × (pick (leb 32768 x) 256 x ≡ 256)) ⊎ ((leb 32768 x ≡ false) × (pick (leb 32768 x) 256 x ≡ x) × (x < 256))
     go (inl h) = let l : x < 32768 = omega (arith, h .0, g .short) in inr (lt-leb 32768 x l, rw (lt-leb 32768 x l), omega (arith, h .0, g .short))
     go (inr h) = inl (le-leb 32768 x (h .0 .0), rw (le-leb 32768 x (h .0 .0)))
 
@@ -203,8 +204,8 @@ itself true = refl
 itself false = refl
 
 -- where all arguments are open, they agree
-all-agree : (tv : Bool) (us vs : Args) → count us ≡ count vs → allVariables us ≡ true → agreeAll true tv us vs ≡ true
-unfolding allVariables agree count
+all-agree : (tv : Bool) (us vs : Args) → countArgs us ≡ countArgs vs → allVariables us ≡ true → agreeAll true tv us vs ≡ true
+unfolding allVariables agree countArgs
 all-agree tv nil nil c e = refl
 all-agree tv nil (cons v vs) c e = absurd (omega arith)
 all-agree tv (cons u us) nil c e = absurd (omega arith)
@@ -215,12 +216,12 @@ all-agree tv (cons (node x ts) us) (cons (node y zs) vs) c e = go (isVariable x)
     go true e ih = rw (one-side (isVariable y) true) (ih e)
     go false e ih = clash e
 
-no-arguments : (qv tv : Bool) (vs : Args) → count nil ≡ count vs → agreeAll qv tv nil vs ≡ true
-unfolding agree count
+no-arguments : (qv tv : Bool) (vs : Args) → countArgs nil ≡ countArgs vs → agreeAll qv tv nil vs ≡ true
+unfolding agree countArgs
 no-arguments qv tv nil c = refl
 no-arguments qv tv (cons v vs) c = absurd (omega arith)
 
-open-agree : (qv tv : Bool) (us vs : Args) → count us ≡ count vs → pick qv (allVariables us) false ≡ true → agreeAll qv tv us vs ≡ true
+open-agree : (qv tv : Bool) (us vs : Args) → countArgs us ≡ countArgs vs → pick qv (allVariables us) false ≡ true → agreeAll qv tv us vs ≡ true
 open-agree true tv us vs c e = all-agree tv us vs c e
 open-agree false tv us vs c e = clash e
 
@@ -256,7 +257,7 @@ module _ (qv tv : Bool) (x : ℕ) (ts : Args) (E : Bool) where
           let n : eqb x y ≡ false = ne-eqb x y (λ z. eqb-false (endOf y) x f (h .1 ∙ sym z)) in
           rw (h .0, h .1, ne-eqb y 256 (λ z. omega (arith, z, h .2)), n) (one-side tv false)
 
-  line-in : (vs : Args) → isVariable x ≡ false → endOf x ≡ x → x < 256 → count ts ≡ count vs → E ≡ agreeAll qv tv ts vs → Line (some (node x vs))
+  line-in : (vs : Args) → isVariable x ≡ false → endOf x ≡ x → x < 256 → countArgs ts ≡ countArgs vs → E ≡ agreeAll qv tv ts vs → Line (some (node x vs))
   unfolding isTop agreeAt agree
   line-in vs v e l c q = rw (v, e, ne-eqb x 256 (λ z. omega (arith, z, l)), eq-eqb x x refl) (go ts refl)
     where
@@ -300,7 +301,7 @@ module _ (qv tv : Bool) (held : Held) (s : ℕ) (t : Tm) (h : held s ≡ some t)
   kind-at (some u) k y vs e = let z : u ≡ node y vs = cc in kind sig g y vs (rw z at k)
 
   mutual
-    unfolding each Shaped subAt nth count allAskNothing agreeAt agree
+    unfolding each Shaped subAt nth countArgs allAskNothing agreeAt agree
 
     means : (q : Tm) (p : Place) (o : Option Tm) → Shaped sig q → subAt p t ≡ o → ShapedAt o → retrieve qv tv held p q s ≡ agreeAt qv tv q o
     means (node x ts) p o w e k = retrieve-at qv tv held s p x ts ∙ rw (is-held, key-at p star o e, key-at p x o e)
@@ -311,21 +312,21 @@ module _ (qv tv : Bool) (held : Held) (s : ℕ) (t : Tm) (h : held s ≡ some t)
         E = each qv tv held p x 0 ts s
 
         settle : Kind x → (b : Bool) → isTop o x ≡ b → (isTop o x ≡ false → E ≡ allAskNothing qv ts)
-            → ((vs : Args) → count ts ≡ count vs → endOf x ≡ x → o ≡ some (node x vs) → Shapes sig vs → E ≡ agreeAll qv tv ts vs) → Line qv tv x ts E o
+            → ((vs : Args) → countArgs ts ≡ countArgs vs → endOf x ≡ x → o ≡ some (node x vs) → Shapes sig vs → E ≡ agreeAll qv tv ts vs) → Line qv tv x ts E o
         settle (inl v) b z f i = line-variable qv tv x ts E o (v .0) (kind-at o k)
         settle (inr v) false z f i = line-out qv tv x ts E o (v .0) (v .2) z (f z) (kind-at o k)
         settle (inr v) true z f i =
             let m = top-same o x z (v .2) (kind-at o k) in
             let d = m .1 in
             let u : Shaped sig (node x (m .0)) = rw d at k in
-            let c : count ts ≡ count (m .0) = shaped-count sig (g .short) x ts w ∙ sym (shaped-count sig (g .short) x (m .0) u) in
+            let c : countArgs ts ≡ countArgs (m .0) = shaped-count sig (g .short) x ts w ∙ sym (shaped-count sig (g .short) x (m .0) u) in
             rw d (line-in qv tv x ts E (m .0) (v .0) (v .1) (v .2) c (i (m .0) c (v .1) d (u .1)))
 
     each-out : (ts : Args) (p : Place) (f i : ℕ) → Shapes sig ts → ((j : ℕ) → subAt (step p f j) t ≡ none) → each qv tv held p f i ts s ≡ allAskNothing qv ts
     each-out nil p f i w n = is-held
     each-out (cons u ts) p f i w n = rw (means u (step p f i) none (w .0) (n i) tt, each-out ts p f (suc i) (w .1) n)
 
-    each-in : (ts : Args) (p : Place) (f i : ℕ) (vs : Args) → Shapes sig ts → Shapes sig vs → ((j : ℕ) → subAt (step p f (i + j)) t ≡ nth j vs) → count ts ≡ count vs
+    each-in : (ts : Args) (p : Place) (f i : ℕ) (vs : Args) → Shapes sig ts → Shapes sig vs → ((j : ℕ) → subAt (step p f (i + j)) t ≡ nth j vs) → countArgs ts ≡ countArgs vs
         → each qv tv held p f i ts s ≡ agreeAll qv tv ts vs
     each-in nil p f i nil w v n c = is-held
     each-in nil p f i (cons v vs) w k n c = absurd (omega arith)

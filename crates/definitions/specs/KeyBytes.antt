@@ -15,7 +15,7 @@ use Rattle.laws.specs.Members.{In, in-append}
 use Rattle.keys.specs.Keys.{Tm, Args, node, nil, cons, Place, root, step, Key, key, endOf, size, sizes, keysT, keysA}
 use Rattle.keys.specs.Bytes.{stepGood, endGood, stepsGood, isKey}
 use Rattle.terms.specs.Terms.{Signed, refusal}
-use Rattle.definitions.specs.Trees.{count, itemsT, Symbol, Variable, Shaped, Shapes, treeOf, keysOf}
+use Rattle.definitions.specs.Trees.{countArgs, itemsT, IsSymbol, Variable, Shaped, Shapes, treeOf, keysOf}
 use Rattle.definitions.specs.Spelt.{end-variable, end-symbol, clash, taken, tree-shaped, term-tree, term-tree-is, size-items}
 
 unfoldable pub placeBytes : Place → List ℕ
@@ -161,8 +161,8 @@ mutual
   args-steps p f i (cons u us) K h = ⊎-elim (λ a. omega (arith, keys-steps (step p f i) u K a)) (λ a. omega (arith, args-steps p f (suc i) us K a))
       (in-append K (keysT (step p f i) u) (keysA p f (suc i) us) h)
 
-no-keys : (p : Place) (f i : ℕ) (us : Args) (K : Key) → count us ≡ 0 → In K (keysA p f i us) → ⊥
-unfolding keysT count
+no-keys : (p : Place) (f i : ℕ) (us : Args) (K : Key) → countArgs us ≡ 0 → In K (keysA p f i us) → ⊥
+unfolding keysT countArgs
 no-keys p f i nil K c h = h
 no-keys p f i (cons u us) K c h = omega arith
 
@@ -176,17 +176,17 @@ module _ (sig : List ℕ) (g : Signed sig) where
   Good (key p e) = Declared p × ((e < length sig) ⊎ (e ≡ 256))
 
   mutual
-    unfolding keysT Shaped Declared Good count
+    unfolding keysT Shaped Declared Good countArgs
 
     keys-good : (p : Place) (u : Tm) → Declared p → Shaped sig u → (K : Key) → In K (keysT p u) → Good K
     keys-good p (node x us) d w K h = go (w .0) h (λ s l j. args-good p x 0 us d s (omega (arith, l)) (w .1) K j)
       where
-        go : (Symbol sig x × (count us ≡ getD sig x 0)) ⊎ (Variable x × (count us ≡ 0)) → (K ≡ key p (endOf x)) ⊎ In K (keysA p (endOf x) 0 us)
-            → (x < length sig → count us ≡ getD sig x 0 → In K (keysA p x 0 us) → Good K) → Good K
+        go : (IsSymbol sig x × (countArgs us ≡ getD sig x 0)) ⊎ (Variable x × (countArgs us ≡ 0)) → (K ≡ key p (endOf x)) ⊎ In K (keysA p (endOf x) 0 us)
+            → (x < length sig → countArgs us ≡ getD sig x 0 → In K (keysA p x 0 us) → Good K) → Good K
         go (inl s) h f = ⊎-elim (λ (z : K ≡ key p x). rw z (d, inl (s .0))) (λ j. f (s .0) (s .1) j) (rw (end-symbol x (omega (arith, s .0, g .short))) at h)
         go (inr s) h f = ⊎-elim (λ (z : K ≡ key p 256). rw z (d, inr refl)) (λ j. absurd (no-keys p 256 0 us K (s .1) j)) (rw (end-variable x (s .0 .0)) at h)
 
-    args-good : (p : Place) (f i : ℕ) (us : Args) → Declared p → f < length sig → i + count us ≤ getD sig f 0 → Shapes sig us → (K : Key) → In K (keysA p f i us) → Good K
+    args-good : (p : Place) (f i : ℕ) (us : Args) → Declared p → f < length sig → i + countArgs us ≤ getD sig f 0 → Shapes sig us → (K : Key) → In K (keysA p f i us) → Good K
     args-good p f i nil d s l w K h = absurd h
     args-good p f i (cons u us) d s l w K h = ⊎-elim (λ a. keys-good (step p f i) u (d, s, omega arith) (w .0) K a) (λ a. args-good p f (suc i) us d s (omega arith) (w .1) K a)
         (in-append K (keysT (step p f i) u) (keysA p f (suc i) us) h)

@@ -1,4 +1,5 @@
--- Candidates on flat lists of items: where no variable stands twice, a candidate is an answer. A device of Linear's proof.
+-- Candidates on flat lists of items: where no variable stands twice, a candidate is an answer.
+-- A device of Linear's proof (document 01, 'The relations themselves').
 use mathlib.Core.Path.{_≡_, refl, sym, ap, _∙_}
 use mathlib.Core.Logic.{inl, inr, _≢_}
 use mathlib.Core.Bool.{Bool, true, false}

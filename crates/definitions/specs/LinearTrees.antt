@@ -1,5 +1,5 @@
--- From trees to flat lists of items: candidates of trees are candidates of lists, and whatever substitutions make the same is a candidate.
--- Devices of Linear's proof.
+-- From trees to flat lists of items: candidates of trees are candidates of lists, and whatever substitutions make the same is a
+-- candidate. Devices of Linear's proof (document 01, 'The relations themselves').
 use Prim.Native.Nat.{ℕ, suc, _+_, _-_, _<_}
 use mathlib.Core.Path.{_≡_, refl, sym, ap, _∙_}
 use mathlib.Core.Logic.{_⊎_, inl, inr}
@@ -16,7 +16,7 @@ use Rattle.terms.specs.Terms.{Signed}
 use Rattle.theory.specs.Flat.{Item, sy, va, Terms, terms-append, readable}
 use Rattle.theory.specs.Subst.{vars, app, app-append, Sub, app-terms, In, in-append}
 use Rattle.theory.specs.Items.{item16, items16, arity, shift}
-use Rattle.definitions.specs.Trees.{count, itemsT, itemsA, Symbol, Variable, Shaped, Shapes}
+use Rattle.definitions.specs.Trees.{countArgs, itemsT, itemsA, IsSymbol, Variable, Shaped, Shapes}
 use Rattle.definitions.specs.Candidates.{isVariable, agree, agreeAll}
 use Rattle.definitions.specs.Spelt.{clash}
 use Rattle.definitions.specs.LinearFlat.{Below, Cand, both, symb, qvar, tvar}
@@ -44,8 +44,8 @@ flats-cons : (u : Tm) (us : Args) → flats (cons u us) ≡ flat u ++ flats us
 unfolding itemsT
 flats-cons u us = items-append (itemsT u) (itemsA us)
 
-bare : (us : Args) → count us ≡ 0 → flats us ≡ []
-unfolding itemsT count
+bare : (us : Args) → countArgs us ≡ 0 → flats us ≡ []
+unfolding itemsT countArgs
 bare nil c = refl
 bare (cons u us) c = absurd (omega arith)
 
@@ -59,36 +59,36 @@ module _ (sig : List ℕ) (g : Signed sig) where
 
   -- a tree is a variable, or a symbol with its arguments
   abbrev View : ℕ → Args → Type 0
-  View x us = ((isVariable x ≡ true) × (flat (node x us) ≡ vars (x - 32768))) ⊎ ((isVariable x ≡ false) × (flat (node x us) ≡ sy x ∷ flats us) × (count us ≡ ar x))
+  View x us = ((isVariable x ≡ true) × (flat (node x us) ≡ vars (x - 32768))) ⊎ ((isVariable x ≡ false) × (flat (node x us) ≡ sy x ∷ flats us) × (countArgs us ≡ ar x))
 
   view : (x : ℕ) (us : Args) → Shaped sig (node x us) → View x us
   unfolding Shaped
   view x us w = go (w .0)
     where
-      go : (Symbol sig x × (count us ≡ getD sig x 0)) ⊎ (Variable x × (count us ≡ 0)) → View x us
+      go : (IsSymbol sig x × (countArgs us ≡ getD sig x 0)) ⊎ (Variable x × (countArgs us ≡ 0)) → View x us
       go (inl h) = let l : x < 32768 = omega (arith, h .0, g .short) in inr (lt-leb 32768 x l, flat-node x us ∙ rw (lt-ltb x 32768 l), h .1)
       go (inr h) = inl (le-leb 32768 x (h .0 .0), flat-node x us ∙ ap {B = List Item} (λ r. item16 x ∷ r) (bare us (h .1)) ∙ rw (le-ltb x 32768 (h .0 .0)))
 
   mutual
-    unfolding Shaped count
+    unfolding Shaped countArgs
 
     pub flat-terms : (u : Tm) → Shaped sig u → Terms ar 1 (flat u)
     flat-terms (node x us) w = go (view x us w) (flats-terms us (w .1))
       where
-        go : View x us → Terms ar (count us) (flats us) → Terms ar 1 (flat (node x us))
+        go : View x us → Terms ar (countArgs us) (flats us) → Terms ar 1 (flat (node x us))
         go (inl h) t = rw (h .1) tt
-        go (inr h) t = let e : count us ≡ ar x + 0 = omega (arith, h .2) in rw (h .1) (rw e at t)
+        go (inr h) t = let e : countArgs us ≡ ar x + 0 = omega (arith, h .2) in rw (h .1) (rw e at t)
 
-    flats-terms : (us : Args) → Shapes sig us → Terms ar (count us) (flats us)
+    flats-terms : (us : Args) → Shapes sig us → Terms ar (countArgs us) (flats us)
     flats-terms nil w = rw flats-nil tt
     flats-terms (cons u us) w =
-        let e : 1 + count us ≡ suc (count us) = omega arith in
-        rw (flats-cons u us, ← e) (terms-append ar 1 (count us) (flat u) (flats us) (flat-terms u (w .0)) (flats-terms us (w .1)))
+        let e : 1 + countArgs us ≡ suc (countArgs us) = omega arith in
+        rw (flats-cons u us, ← e) (terms-append ar 1 (countArgs us) (flat u) (flats us) (flat-terms u (w .0)) (flats-terms us (w .1)))
 
   module _ (qv tv : Bool) where
     -- trees that agree, put before lists that agree
     mutual
-      unfolding agree Shaped count
+      unfolding agree Shaped countArgs
 
       pub agree-cand : (q t : Tm) → Shaped sig q → Shaped sig t → agree qv tv q t ≡ true → (k : ℕ) (l m : List Item) → Cand ar qv tv k l m
           → Cand ar qv tv (suc k) (flat q ++ l) (flat t ++ m)
@@ -96,7 +96,7 @@ module _ (sig : List ℕ) (g : Signed sig) where
         where
           go : View x us → View y vs
               → pick (isVariable x) (pick (isVariable y) true qv) (pick (isVariable y) tv (pick (eqb x y) (agreeAll qv tv us vs) false)) ≡ true
-              → (agreeAll qv tv us vs ≡ true → count us ≡ count vs → Cand ar qv tv (count us + k) (flats us ++ l) (flats vs ++ m))
+              → (agreeAll qv tv us vs ≡ true → countArgs us ≡ countArgs vs → Cand ar qv tv (countArgs us + k) (flats us ++ l) (flats vs ++ m))
               → Cand ar qv tv (suc k) (flat (node x us) ++ l) (flat (node y vs) ++ m)
           go (inl h) (inl i) a f = rw (h .1, i .1) (both c)
           go (inl h) (inr i) a f = rw (h .1) (qvar (flat (node y vs)) (holds qv (rw (h .0, i .0) at a)) (flat-terms (node y vs) v) c)
@@ -109,18 +109,18 @@ module _ (sig : List ℕ) (g : Signed sig) where
                   rw (h .1, i .1, q) (symb x (rw (h .2) at (f z (h .2 ∙ sym (ap ar q) ∙ sym (i .2)))))
               fit false e z = clash z
 
-      agreeAll-cand : (us vs : Args) → Shapes sig us → Shapes sig vs → agreeAll qv tv us vs ≡ true → count us ≡ count vs → (k : ℕ) (l m : List Item) → Cand ar qv tv k l m
-          → Cand ar qv tv (count us + k) (flats us ++ l) (flats vs ++ m)
+      agreeAll-cand : (us vs : Args) → Shapes sig us → Shapes sig vs → agreeAll qv tv us vs ≡ true → countArgs us ≡ countArgs vs → (k : ℕ) (l m : List Item) → Cand ar qv tv k l m
+          → Cand ar qv tv (countArgs us + k) (flats us ++ l) (flats vs ++ m)
       agreeAll-cand nil nil w v a e k l m c = rw (flats-nil, zero-add) c
       agreeAll-cand nil (cons u vs) w v a e k l m c = absurd (omega arith)
       agreeAll-cand (cons u us) nil w v a e k l m c = absurd (omega arith)
-      agreeAll-cand (cons u us) (cons z vs) w v a e k l m c = go (agree qv tv u z) refl a (λ b d. agree-cand u z (w .0) (v .0) b (count us + k) (flats us ++ l) (flats vs ++ m) d)
+      agreeAll-cand (cons u us) (cons z vs) w v a e k l m c = go (agree qv tv u z) refl a (λ b d. agree-cand u z (w .0) (v .0) b (countArgs us + k) (flats us ++ l) (flats vs ++ m) d)
           (λ b. agreeAll-cand us vs (w .1) (v .1) b (omega arith) k l m c)
         where
           go : (b : Bool) → agree qv tv u z ≡ b → pick b (agreeAll qv tv us vs) false ≡ true
-              → (agree qv tv u z ≡ true → Cand ar qv tv (count us + k) (flats us ++ l) (flats vs ++ m) → Cand ar qv tv (suc (count us + k)) (flat u ++ (flats us ++ l)) (flat z ++ (flats vs ++ m)))
-              → (agreeAll qv tv us vs ≡ true → Cand ar qv tv (count us + k) (flats us ++ l) (flats vs ++ m))
-              → Cand ar qv tv (suc (count us) + k) (flats (cons u us) ++ l) (flats (cons z vs) ++ m)
+              → (agree qv tv u z ≡ true → Cand ar qv tv (countArgs us + k) (flats us ++ l) (flats vs ++ m) → Cand ar qv tv (suc (countArgs us + k)) (flat u ++ (flats us ++ l)) (flat z ++ (flats vs ++ m)))
+              → (agreeAll qv tv us vs ≡ true → Cand ar qv tv (countArgs us + k) (flats us ++ l) (flats vs ++ m))
+              → Cand ar qv tv (suc (countArgs us) + k) (flats (cons u us) ++ l) (flats (cons z vs) ++ m)
           go true e d f h = rw (flats-cons u us, flats-cons z vs, append-assoc (flat u) (flats us) l, append-assoc (flat z) (flats vs) m, suc-add) (f e (h d))
           go false e d f h = clash d
 
@@ -140,13 +140,13 @@ module _ (sig : List ℕ) (g : Signed sig) where
           absurd (let z : _≡_ {A = ℕ} 0 1 = cc in omega arith)
 
       mutual
-        unfolding agree Shaped count
+        unfolding agree Shaped countArgs
 
         pub same-agree : (q t : Tm) → Shaped sig q → Shaped sig t → (l m : List Item) → app σ (flat q ++ l) ≡ app τ (flat t ++ m) → (agree qv tv q t ≡ true) × (app σ l ≡ app τ m)
         same-agree (node x us) (node y vs) w v l m e = go (view x us w) (view y vs v) e (λ c d. sames-agree us vs (w .1) (v .1) c l m d)
           where
             go : View x us → View y vs → app σ (flat (node x us) ++ l) ≡ app τ (flat (node y vs) ++ m)
-                → (count us ≡ count vs → app σ (flats us ++ l) ≡ app τ (flats vs ++ m) → (agreeAll qv tv us vs ≡ true) × (app σ l ≡ app τ m))
+                → (countArgs us ≡ countArgs vs → app σ (flats us ++ l) ≡ app τ (flats vs ++ m) → (agreeAll qv tv us vs ≡ true) × (app σ l ≡ app τ m))
                 → (pick (isVariable x) (pick (isVariable y) true qv) (pick (isVariable y) tv (pick (eqb x y) (agreeAll qv tv us vs) false)) ≡ true) × (app σ l ≡ app τ m)
             go (inl h) (inl i) e f =
                 let d : σ (x - 32768) ++ app σ l ≡ τ (y - 32768) ++ app τ m = rw (h .1, i .1) at e in
@@ -170,7 +170,7 @@ module _ (sig : List ℕ) (g : Signed sig) where
                 let r = f (h .2 ∙ ap ar q ∙ sym (i .2)) d in
                 (rw (h .0, i .0, eq-eqb x y q) (r .0), r .1)
 
-        sames-agree : (us vs : Args) → Shapes sig us → Shapes sig vs → count us ≡ count vs → (l m : List Item) → app σ (flats us ++ l) ≡ app τ (flats vs ++ m)
+        sames-agree : (us vs : Args) → Shapes sig us → Shapes sig vs → countArgs us ≡ countArgs vs → (l m : List Item) → app σ (flats us ++ l) ≡ app τ (flats vs ++ m)
             → (agreeAll qv tv us vs ≡ true) × (app σ l ≡ app τ m)
         sames-agree nil nil w v c l m e = (refl, rw (flats-nil) at e)
         sames-agree nil (cons u vs) w v c l m e = absurd (omega arith)
@@ -191,7 +191,7 @@ module _ (sig : List ℕ) (g : Signed sig) where
         one v (inl e) = omega (arith, e, v .0, v .1)
         one v (inr e) = absurd e
 
-        go : (Symbol sig x × (count us ≡ getD sig x 0)) ⊎ (Variable x × (count us ≡ 0)) → View x us → (In z (flats us) → z < 32) → z < 32
+        go : (IsSymbol sig x × (countArgs us ≡ getD sig x 0)) ⊎ (Variable x × (countArgs us ≡ 0)) → View x us → (In z (flats us) → z < 32) → z < 32
         go (inl h) (inl v) f = absurd (omega (arith, h .0, g .short, leb-true 32768 x (v .0)))
         go (inl h) (inr v) f = f (rw (v .1) at i)
         go (inr h) (inl v) f = one (h .0) (rw (v .1) at i)

@@ -1,5 +1,6 @@
--- The functions of Store say the sentences of document 01: what each list has, what each number counts, when solve is refused and
--- what its record is. The statements are for stores that calls lead to (Sound).
+-- The functions of Store say the sentences of document 01 ('Store', 'Paths and keys', 'The relations themselves', 'The solver's
+-- record'): what each list has, what each number counts, when solve is refused and what its record is. The statements are for
+-- stores that calls lead to (Sound).
 use Prim.Native.Nat.{ℕ, zero, suc, _+_, _≤_, _<_}
 use native.Mathlib.Decide.{ℕ-discrete, decLt}
 use native.Mathlib.Omega.{arith}
@@ -90,14 +91,14 @@ module _ (p : ℕ → Bool) where
   pub slots-are : (s : ℕ) → In s (slotsWith p) ↔ ((s < 512) × (p s ≡ true))
   slots-are s = ((λ i. (let h = listed-in 512 0 s i in (omega (arith, h .1), h .2))), (λ h. into-listed 512 0 s (omega arith) (omega (arith, h .0)) (h .1)))
 
-differ : (t : List ℕ) → none ≡ some t → ⊥
-differ t e = let z : _≡_ {A = ℕ} 0 1 = cc in omega arith
+none-some : (t : List ℕ) → none ≡ some t → ⊥
+none-some t e = let z : _≡_ {A = ℕ} 0 1 = cc in omega arith
 
 same-term : (t u : List ℕ) → some t ≡ some u → t ≡ u
 same-term t u e = cc
 
 holding-is : (p : List ℕ → Bool) (o : Option (List ℕ)) → (holding p o ≡ true) ↔ ((t : List ℕ) × (o ≡ some t) × (p t ≡ true))
-holding-is p none = ((λ h. clash h), (λ h. absurd (differ (h .0) (h .1))))
+holding-is p none = ((λ h. clash h), (λ h. absurd (none-some (h .0) (h .1))))
 holding-is p (some t) = ((λ h. (t, refl, h)), (λ h. (let d : t ≡ h .0 = same-term t (h .0) (h .1) in rw d (h .2))))
 
 told : {P : Type 0} (b : Bool) → Decided b P → P → b ≡ true
@@ -206,7 +207,7 @@ module _ (st : Store) (h : Sound st) where
     where
       go : Dec (s < 512) → s < 512
       go (yes l) = l
-      go (no n) = absurd (differ t (sym (h .bounded s (omega (arith, n))) ∙ e))
+      go (no n) = absurd (none-some t (sym (h .bounded s (omega (arith, n))) ∙ e))
 
   -- a slot in use holds a term
   pub use-held : (s : ℕ) → (inUse st s ≡ true) ↔ ((t : List ℕ) × (st .held s ≡ some t))
@@ -279,7 +280,7 @@ module _ (st : Store) (h : Sound st) where
 
   -- the distinct keys of the stored terms
   in-keys : (o : Option (List ℕ)) (K : Key) → In K (keysIn (st .signature) o) ↔ ((t : List ℕ) × (o ≡ some t) × HasKey (treeOf (st .signature) t) K)
-  in-keys none K = ((λ i. absurd i), (λ w. absurd (differ (w .0) (w .1))))
+  in-keys none K = ((λ i. absurd i), (λ w. absurd (none-some (w .0) (w .1))))
   in-keys (some t) K =
       ((λ i. (t, refl, keys-stand (st .signature) t K .0 i)), (λ w. (let d : t ≡ w .0 = same-term t (w .0) (w .1) in keys-stand (st .signature) t K .1 (rw d (w .2)))))
 

@@ -1,4 +1,5 @@
--- Laws of Trees: the bytes that the term check takes are the terms, each spells one tree, and its parts spell the tree's parts.
+-- Document 01, 'Term bytes': laws of Trees. The bytes that the term check takes are the terms, each spells one tree, and its parts
+-- spell the tree's parts. 'Paths and keys': a term of n items has n keys, all distinct.
 use Prim.Native.Nat.{ℕ, zero, suc, _+_, _-_, _*_, _%_, _≤_, _<_}
 use mathlib.Core.Path.{_≡_, refl, sym, ap, _∙_}
 use mathlib.Core.Logic.{_⊎_, inl, inr, _↔_}
@@ -14,18 +15,18 @@ use lib.Seq.{drop-drop}
 use Rattle.laws.specs.Choice.{pick}
 use Rattle.laws.specs.Members.{In, NoDup}
 use Rattle.keys.specs.Keys.{Tm, Args, node, nil, cons, nth, root, Key, endOf, size, sizes, HasKey, keys-length, keys-nodup, in-has, has-in}
-use Rattle.terms.specs.Terms.{numbers, span, declared, itemsGood, Signed, refusal, head, argRefusal, argBytes}
+use Rattle.terms.specs.Terms.{numbers, span, declared, itemsGood, Signed, refusal, firstItem, argRefusal, argBytes}
 use Rattle.terms.proofs.Laws.{Good, good, span-zero, all-taken, length-numbers, arg-none}
 use Rattle.theory.specs.Checked.{fine-good}
-use Rattle.definitions.specs.Trees.{count, itemsT, itemsA, Symbol, Variable, Shaped, Shapes, IsTerm, firsts, others, forest, top, treeOf, argsOf, keysOf}
+use Rattle.definitions.specs.Trees.{countArgs, itemsT, itemsA, IsSymbol, Variable, Shaped, Shapes, IsTerm, firsts, others, forest, top, treeOf, argsOf, keysOf}
 
 -- us, and then vs
 unfoldable pub join : Args → Args → Args
 join nil vs = vs
 join (cons u us) vs = cons u (join us vs)
 
-count-join : (us vs : Args) → count (join us vs) ≡ count us + count vs
-unfolding join count
+count-join : (us vs : Args) → countArgs (join us vs) ≡ countArgs us + countArgs vs
+unfolding join countArgs
 count-join nil vs = omega arith
 count-join (cons u us) vs = omega (arith, count-join us vs)
 
@@ -34,13 +35,13 @@ unfolding join itemsT
 items-join nil vs = refl
 items-join (cons u us) vs = rw (items-join us vs, append-assoc)
 
-firsts-join : (us vs : Args) (k : ℕ) → firsts (count us + k) (join us vs) ≡ join us (firsts k vs)
-unfolding join count firsts
+firsts-join : (us vs : Args) (k : ℕ) → firsts (countArgs us + k) (join us vs) ≡ join us (firsts k vs)
+unfolding join countArgs firsts
 firsts-join nil vs k = rw zero-add
 firsts-join (cons u us) vs k = rw (suc-add, firsts-join us vs k)
 
-others-join : (us vs : Args) (k : ℕ) → others (count us + k) (join us vs) ≡ others k vs
-unfolding join count others
+others-join : (us vs : Args) (k : ℕ) → others (countArgs us + k) (join us vs) ≡ others k vs
+unfolding join countArgs others
 others-join nil vs k = rw zero-add
 others-join (cons u us) vs k = rw (suc-add, others-join us vs k)
 
@@ -49,22 +50,22 @@ unfolding join
 join-nil nil = refl
 join-nil (cons u us) = rw (join-nil us)
 
-firsts-all : (us vs : Args) → firsts (count us) (join us vs) ≡ us
+firsts-all : (us vs : Args) → firsts (countArgs us) (join us vs) ≡ us
 unfolding firsts
 firsts-all us vs = rw (add-zero, join-nil) at (firsts-join us vs 0)
 
-others-all : (us vs : Args) → others (count us) (join us vs) ≡ vs
+others-all : (us vs : Args) → others (countArgs us) (join us vs) ≡ vs
 unfolding others
 others-all us vs = rw add-zero at (others-join us vs 0)
 
-count-firsts : (k n : ℕ) (us : Args) → count us ≡ k + n → count (firsts k us) ≡ k
-unfolding firsts count
+count-firsts : (k n : ℕ) (us : Args) → countArgs us ≡ k + n → countArgs (firsts k us) ≡ k
+unfolding firsts countArgs
 count-firsts zero n us e = refl
 count-firsts (suc k) n nil e = omega arith
 count-firsts (suc k) n (cons u us) e = ap suc (count-firsts k n us (omega arith))
 
-count-others : (k n : ℕ) (us : Args) → count us ≡ k + n → count (others k us) ≡ n
-unfolding others count
+count-others : (k n : ℕ) (us : Args) → countArgs us ≡ k + n → countArgs (others k us) ≡ n
+unfolding others countArgs
 count-others zero n us e = omega arith
 count-others (suc k) n nil e = omega arith
 count-others (suc k) n (cons u us) e = count-others k n us (omega arith)
@@ -114,20 +115,20 @@ module _ (sig : List ℕ) where
   pub variable-arity : length sig ≤ 256 → (x : ℕ) → Variable x → getD sig x 0 ≡ 0
   variable-arity b x v = List·getD-eq-default sig 0 (omega (arith, v .0))
 
-  pub shaped-count : length sig ≤ 256 → (x : ℕ) (us : Args) → Shaped sig (node x us) → count us ≡ getD sig x 0
+  pub shaped-count : length sig ≤ 256 → (x : ℕ) (us : Args) → Shaped sig (node x us) → countArgs us ≡ getD sig x 0
   unfolding Shaped
   shaped-count b x us w = go (w .0)
     where
-      go : (Symbol sig x × (count us ≡ getD sig x 0)) ⊎ (Variable x × (count us ≡ 0)) → count us ≡ getD sig x 0
+      go : (IsSymbol sig x × (countArgs us ≡ getD sig x 0)) ⊎ (Variable x × (countArgs us ≡ 0)) → countArgs us ≡ getD sig x 0
       go (inl h) = h .1
       go (inr h) = h .1 ∙ sym (variable-arity b x (h .0))
 
-  declared-shape : length sig ≤ 256 → (x : ℕ) (us : Args) → declared (length sig) x ≡ true → count us ≡ getD sig x 0 → Shapes sig us → Shaped sig (node x us)
+  declared-shape : length sig ≤ 256 → (x : ℕ) (us : Args) → declared (length sig) x ≡ true → countArgs us ≡ getD sig x 0 → Shapes sig us → Shaped sig (node x us)
   unfolding declared Shaped
   declared-shape b x us d c w = (go (ltb x (length sig)) refl d, w)
     where
       go : (q : Bool) → ltb x (length sig) ≡ q → pick q true (pick (leb 32768 x) (ltb x 32800) false) ≡ true
-          → (Symbol sig x × (count us ≡ getD sig x 0)) ⊎ (Variable x × (count us ≡ 0))
+          → (IsSymbol sig x × (countArgs us ≡ getD sig x 0)) ⊎ (Variable x × (countArgs us ≡ 0))
       go true e h = inl (ltb-true _ _ e, c)
       go false e h =
           let p = taken (leb 32768 x) (ltb x 32800) h in
@@ -138,7 +139,7 @@ module _ (sig : List ℕ) where
   unfolding declared Shaped
   shape-declared x us w = go (w .0)
     where
-      go : (Symbol sig x × (count us ≡ getD sig x 0)) ⊎ (Variable x × (count us ≡ 0)) → pick (ltb x (length sig)) true (pick (leb 32768 x) (ltb x 32800) false) ≡ true
+      go : (IsSymbol sig x × (countArgs us ≡ getD sig x 0)) ⊎ (Variable x × (countArgs us ≡ 0)) → pick (ltb x (length sig)) true (pick (leb 32768 x) (ltb x 32800) false) ≡ true
       go (inl h) = rw (lt-ltb x (length sig) (h .0))
       go (inr h) = rw (le-leb 32768 x (h .0 .0), lt-ltb x 32800 (h .0 .1)) (same (ltb x (length sig)))
         where
@@ -161,8 +162,8 @@ module _ (sig : List ℕ) where
 
   -- bytes that are just k terms of declared items are read as k trees with these items
   read : length sig ≤ 256 → (t : List ℕ) (k : ℕ) → length t % 2 ≡ 0 → itemsGood (length sig) t ≡ true → span sig t k ≡ length t
-      → (count (forest sig (numbers t)) ≡ k) × Shapes sig (forest sig (numbers t)) × (itemsA (forest sig (numbers t)) ≡ numbers t)
-  unfolding forest numbers span itemsGood count itemsT Shaped
+      → (countArgs (forest sig (numbers t)) ≡ k) × Shapes sig (forest sig (numbers t)) × (itemsA (forest sig (numbers t)) ≡ numbers t)
+  unfolding forest numbers span itemsGood countArgs itemsT Shaped
   read b [] k e g h = (omega arith, tt, refl)
   read b (x ∷ []) k e g h = absurd (omega arith)
   read b (x ∷ l ∷ r) zero e g h = absurd (omega arith)
@@ -178,8 +179,8 @@ module _ (sig : List ℕ) where
       F = forest sig (numbers r)
 
       go : (declared (length sig) y ≡ true) × (itemsGood (length sig) r ≡ true)
-          → (itemsGood (length sig) r ≡ true → (count F ≡ A + k) × Shapes sig F × (itemsA F ≡ numbers r))
-          → (suc (count (others A F)) ≡ suc k) × (Shaped sig (node y (firsts A F)) × Shapes sig (others A F)) × (y ∷ itemsA (firsts A F) ++ itemsA (others A F) ≡ y ∷ numbers r)
+          → (itemsGood (length sig) r ≡ true → (countArgs F ≡ A + k) × Shapes sig F × (itemsA F ≡ numbers r))
+          → (suc (countArgs (others A F)) ≡ suc k) × (Shaped sig (node y (firsts A F)) × Shapes sig (others A F)) × (y ∷ itemsA (firsts A F) ++ itemsA (others A F) ≡ y ∷ numbers r)
       go d ih = let i = ih (d .1) in (
         ap suc (count-others A k F (i .0)),
         (declared-shape b y (firsts A F) (d .0) (count-firsts A k F (i .0)) (shapes-firsts A F (i .1)), shapes-others A F (i .1)),
@@ -196,22 +197,22 @@ module _ (sig : List ℕ) where
   unfolding firsts others itemsT numbers
   parts-none t us e = record { long = rw (span-zero sig t); before = rw (span-zero sig t); after = rw (span-zero sig t) e }
 
-  parts-more : (h m : ℕ) (r : List ℕ) (k x : ℕ) (vs us : Args) → count vs ≡ getD sig x 0 → h * 256 + m ≡ x → Parts r (count vs + k) (join vs us)
+  parts-more : (h m : ℕ) (r : List ℕ) (k x : ℕ) (vs us : Args) → countArgs vs ≡ getD sig x 0 → h * 256 + m ≡ x → Parts r (countArgs vs + k) (join vs us)
       → Parts (h ∷ m ∷ r) (suc k) (cons (node x vs) us)
   unfolding numbers span firsts others itemsT
   parts-more h m r k x vs us c e p =
-      let f : itemsA (firsts (count vs + k) (join vs us)) ≡ itemsA vs ++ itemsA (firsts k us) = ap itemsA (firsts-join vs us k) ∙ items-join vs (firsts k us) in
+      let f : itemsA (firsts (countArgs vs + k) (join vs us)) ≡ itemsA vs ++ itemsA (firsts k us) = ap itemsA (firsts-join vs us k) ∙ items-join vs (firsts k us) in
       record {
         long = rw (e, ← c, p .long, f) (omega arith);
         before = rw (e, ← c, two) (rw (e, p .before, f));
         after = rw (e, ← c, two) (p .after ∙ ap itemsA (others-join vs us k));
       }
     where
-      two : 2 + span sig r (count vs + k) ≡ suc (suc (span sig r (count vs + k)))
+      two : 2 + span sig r (countArgs vs + k) ≡ suc (suc (span sig r (countArgs vs + k)))
       two = omega arith
 
-  pub parts : length sig ≤ 256 → (t : List ℕ) (k : ℕ) (us : Args) → Shapes sig us → k ≤ count us → numbers t ≡ itemsA us → Parts t k us
-  unfolding numbers count itemsT Shaped
+  pub parts : length sig ≤ 256 → (t : List ℕ) (k : ℕ) (us : Args) → Shapes sig us → k ≤ countArgs us → numbers t ≡ itemsA us → Parts t k us
+  unfolding numbers countArgs itemsT Shaped
   parts b [] zero us w l e = parts-none [] us e
   parts b (h ∷ []) zero us w l e = parts-none (h ∷ []) us e
   parts b (h ∷ m ∷ r) zero us w l e = parts-none (h ∷ m ∷ r) us e
@@ -223,7 +224,7 @@ module _ (sig : List ℕ) where
   parts b (h ∷ m ∷ r) (suc k) (cons (node x vs) us) w l e =
       let s : numbers r ≡ itemsA vs ++ itemsA us = cc in
       parts-more h m r k x vs us (shaped-count b x vs (w .0)) (cc)
-      (parts b r (count vs + k) (join vs us) (shapes-join vs us (w .0 .1) (w .1)) (omega (arith, count-join vs us)) (s ∙ sym (items-join vs us)))
+      (parts b r (countArgs vs + k) (join vs us) (shapes-join vs us (w .0 .1) (w .1)) (omega (arith, count-join vs us)) (s ∙ sym (items-join vs us)))
 
   -- what spells trees has only declared items
   tree-items : (t : List ℕ) (us : Args) → Shapes sig us → numbers t ≡ itemsA us → itemsGood (length sig) t ≡ true
@@ -236,8 +237,8 @@ module _ (sig : List ℕ) where
       let s : numbers r ≡ itemsA vs ++ itemsA us = cc in
       rw (y, shape-declared x vs (w .0), tree-items r (join vs us) (shapes-join vs us (w .0 .1) (w .1)) (s ∙ sym (items-join vs us)))
 
-  only : (us : Args) (xs : List ℕ) → count us ≡ 1 → Shapes sig us → itemsA us ≡ xs → Shaped sig (top us) × (itemsT (top us) ≡ xs)
-  unfolding count Shaped itemsT top
+  only : (us : Args) (xs : List ℕ) → countArgs us ≡ 1 → Shapes sig us → itemsA us ≡ xs → Shaped sig (top us) × (itemsT (top us) ≡ xs)
+  unfolding countArgs Shaped itemsT top
   only nil xs c w e = absurd (omega arith)
   only (cons u nil) xs c w e = (w .0, sym (append-nil (itemsT u)) ∙ e)
   only (cons u (cons v us)) xs c w e = absurd (omega arith)
@@ -265,7 +266,7 @@ module _ (sig : List ℕ) where
 
   -- and terms are taken
   pub tree-term : (t : List ℕ) → Signed sig → IsTerm sig t → refusal sig t ≡ 0
-  unfolding count Shaped itemsT firsts
+  unfolding countArgs Shaped itemsT firsts
   tree-term t s i =
       let us = cons (i .tree) nil in
       let e : numbers t ≡ itemsT (i .tree) ++ [] = i .spells ∙ sym (append-nil (itemsT (i .tree))) in
@@ -300,10 +301,10 @@ module _ (sig : List ℕ) where
     pub shaped : Shaped sig one
     pub first : itemsA (firsts 1 (others k us)) ≡ itemsT one
     pub fits : length (itemsT one) ≤ length (itemsA (others k us))
-    pub counts : 1 ≤ count (others k us)
+    pub counts : 1 ≤ countArgs (others k us)
 
-  nth-tree : (k : ℕ) (us : Args) → Shapes sig us → k < count us → Nth k us
-  unfolding nth firsts others itemsT Shaped count
+  nth-tree : (k : ℕ) (us : Args) → Shapes sig us → k < countArgs us → Nth k us
+  unfolding nth firsts others itemsT Shaped countArgs
   nth-tree k nil w l = absurd (omega arith)
   nth-tree zero (cons u us) w l = record { one = u; is = refl; shaped = w .0; first = append-nil (itemsT u); fits = rw length-append (omega arith); counts = omega arith }
   nth-tree (suc k) (cons u us) w l = let h = nth-tree k us (w .1) (omega arith) in
@@ -314,7 +315,7 @@ module _ (sig : List ℕ) where
   unfolding argBytes
   arg-part t i h = rw (h, drop-drop (span sig (drop 2 t) (i - 1)) 2 t)
 
-  root-items : (t : List ℕ) (x : ℕ) (us : Args) → numbers t ≡ itemsT (node x us) → (head t ≡ x) × (numbers (drop 2 t) ≡ itemsA us)
+  root-items : (t : List ℕ) (x : ℕ) (us : Args) → numbers t ≡ itemsT (node x us) → (firstItem t ≡ x) × (numbers (drop 2 t) ≡ itemsA us)
   unfolding numbers itemsT
   root-items [] x us e = absurd (let z : _≡_ {A = ℕ} 0 1 = cc in omega arith)
   root-items (h ∷ []) x us e = absurd (let z : _≡_ {A = ℕ} 0 1 = cc in omega arith)
@@ -326,7 +327,7 @@ module _ (sig : List ℕ) where
   arg-term t i s h (node x us) w e =
       let n = arg-none sig t i h in
       let r = root-items t x us e in
-      let c : count us ≡ getD sig (head t) 0 = shaped-count (s .short) x us w ∙ ap (λ (z : ℕ). getD sig z 0) (sym (r .0)) in
+      let c : countArgs us ≡ getD sig (firstItem t) 0 = shaped-count (s .short) x us w ∙ ap (λ (z : ℕ). getD sig z 0) (sym (r .0)) in
       let D = drop 2 t in
       let p = parts (s .short) D (i - 1) us (w .1) (omega (arith, c, n .2)) (r .1) in
       let v = nth-tree (i - 1) us (w .1) (omega (arith, c, n .1, n .2)) in

@@ -1,6 +1,6 @@
 -- Document 01, 'Store' and 'Numbers of refusal': the library as functions on stores, with no word of tables.
 -- What a lent table or buffer adds: refusal 1 is about the tables' lengths alone; `room` is the buffer's length in bytes.
-use Prim.Native.Nat.{ℕ, zero, suc, _+_, _*_, _/_, _%_}
+use Prim.Native.Nat.{ℕ, zero, suc, _+_, _*_}
 use mathlib.Core.Path.{_≡_, refl}
 use native.Mathlib.Omega.{arith}
 use native.Mathlib.Decide.{ℕ-discrete}
@@ -10,6 +10,7 @@ use mathlib.Core.List.{List, [], _∷_, _++_}
 use lib.Dec.{ltb, eqb}
 use lib.ListN.{length}
 use Rattle.laws.specs.Choice.{pick}
+use Rattle.slots.specs.Slots.{listed}
 use Rattle.terms.specs.declared.Refusal.{Refusal}
 use Rattle.terms.specs.declared.Refusal.the-variants as Refusal
 use Rattle.terms.specs.Refusals.{numberOf}
@@ -196,14 +197,10 @@ after st (retrieve r q room) = st
 after st (solve s q room) = st
 
 -- the first bytes of the buffer after an answer: a listing, two bytes a slot, high first, or a record
-unfoldable pub listing : List ℕ → List ℕ
-listing [] = []
-listing (s ∷ l) = s / 256 ∷ s % 256 ∷ listing l
-
 abbrev pub written : Answer → List ℕ
 written (refused n) = []
 written opened = []
 written (slot s) = []
-written (slots l) = listing l
-written (found n l) = listing l
+written (slots l) = listed l
+written (found n l) = listed l
 written (solved n w) = w

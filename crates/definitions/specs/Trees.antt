@@ -8,9 +8,9 @@ use Rattle.keys.specs.Keys.{Tm, Args, node, nil, cons, Key, root, keysT}
 use Rattle.terms.specs.Terms.{numbers}
 
 -- how many arguments there are
-unfoldable pub count : Args → ℕ
-count nil = 0
-count (cons t us) = suc (count us)
+unfoldable pub countArgs : Args → ℕ
+countArgs nil = 0
+countArgs (cons t us) = suc (countArgs us)
 
 -- 'one item, followed by the terms of its arguments from left to right'
 unfoldable mutual
@@ -22,8 +22,8 @@ unfoldable mutual
   itemsA (cons t us) = itemsT t ++ itemsA us
 
 -- 'a value below n is that symbol; 0x8000 + v with v from 0 to 31 is variable v'
-abbrev pub Symbol : List ℕ → ℕ → Type 0
-Symbol sig x = x < length sig
+abbrev pub IsSymbol : List ℕ → ℕ → Type 0
+IsSymbol sig x = x < length sig
 
 abbrev pub Variable : ℕ → Type 0
 Variable x = (32768 ≤ x) × (x < 32800)
@@ -31,7 +31,7 @@ Variable x = (32768 ≤ x) × (x < 32800)
 -- a symbol has as many arguments as its arity; a variable has none
 unfoldable mutual
   pub Shaped : List ℕ → Tm → Type 0
-  Shaped sig (node x us) = ((Symbol sig x × (count us ≡ getD sig x 0)) ⊎ (Variable x × (count us ≡ 0))) × Shapes sig us
+  Shaped sig (node x us) = ((IsSymbol sig x × (countArgs us ≡ getD sig x 0)) ⊎ (Variable x × (countArgs us ≡ 0))) × Shapes sig us
 
   pub Shapes : List ℕ → Args → Type 0
   Shapes sig nil = Unit {0}

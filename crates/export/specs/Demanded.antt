@@ -1,6 +1,7 @@
--- The exported functions and the three demands. The `ensures` of each exported call over tables is one proposition of Calls.antt;
--- here it gives the case of `Called` that the demands are about (meaning/specs/Demands.antt), and so the demands hold of what C and
--- Rust call. T and T' are the tables before and after, r the number that is answered, a name with ₀ what stood there before.
+-- The exported functions and the three demands (document 01, 'What the contracts owe'). The `ensures` of each exported call over
+-- tables is one proposition of Calls.antt; here it gives the case of `Called` that the demands are about
+-- (meaning/specs/Demands.antt), and so the demands hold of what C and Rust call. T and T' are the tables before and after, r the
+-- number that is answered, a name with ₀ what stood there before.
 use Prim.Native.Nat.{ℕ}
 use mathlib.Core.Path.{_≡_, refl, sym, ap, _∙_}
 use mathlib.Core.Logic.{inl, inr, _≢_, _↔_}

@@ -1,4 +1,5 @@
--- The numbers that an exported call tells, as the reply that the demands speak of (meaning/specs/Runs.antt).
+-- Serves the demands (document 01, 'What the contracts owe'): the numbers that an exported call tells, as the reply that the
+-- demands speak of (meaning/specs/Runs.antt).
 use Prim.Native.Nat.{ℕ}
 use mathlib.Core.Path.{_≡_, refl, sym, _∙_}
 use mathlib.Core.List.{List}

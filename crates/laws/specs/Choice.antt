@@ -1,4 +1,5 @@
--- A choice between two values by a test. Every definition that goes by tests is written with it.
+-- A choice between two values by a test. Every definition that goes by tests is written with it. Serves document 01, 'Numbers of
+-- refusal': tests in a row give the lowest number that applies.
 use mathlib.Core.Bool.{Bool, true, false}
 
 abbrev pub pick {ℓ} : {A : Type ℓ} → Bool → A → A → A

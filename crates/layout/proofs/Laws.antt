@@ -58,12 +58,12 @@ pub signature-good : (b : List ℕ) → Signed (signatureOf b)
 unfolding signatureOf
 signature-good b = go (ltb 256 (getD b 0 0 * 256 + getD b 1 0)) (ltb 8 (largestOf (arities b))) refl refl
   where
-    none : Signed []
-    none = record { short = omega arith; eight = λ x. omega arith }
+    no-signature : Signed []
+    no-signature = record { short = omega arith; eight = λ x. omega arith }
 
     go : (p q : Bool) → ltb 256 (getD b 0 0 * 256 + getD b 1 0) ≡ p → ltb 8 (largestOf (arities b)) ≡ q → Signed (pick p [] (pick q [] (arities b)))
-    go true q e f = none
-    go false true e f = none
+    go true q e f = no-signature
+    go false true e f = no-signature
     go false false e f = record {
       short = (let z = ltb-false 256 (getD b 0 0 * 256 + getD b 1 0) e in simp length-take (omega (arith, z)));
       eight = λ x. let z = ltb-false 8 (largestOf (arities b)) f in omega (arith, z, largest-le (arities b) x);

@@ -1,4 +1,5 @@
--- docs/TABLES.md: how long the lent tables are, and where the signature, the slots in use and the terms stand in them.
+-- Document 01, 'Store' ('the tables' sizes are written in docs/'), docs/TABLES.md: how long the lent tables are, and where the
+-- signature, the slots in use and the terms stand in them.
 use Prim.Native.Nat.{ℕ, _+_, _*_, _/_, _%_, _≤_, _<_, max}
 use mathlib.Core.Path.{_≡_}
 use mathlib.Core.List.{List, [], _∷_, _++_}

@@ -1,4 +1,4 @@
--- The contents of the eight lent tables (docs/TABLES.md).
+-- Document 01, 'Store': the contents of the eight lent tables (docs/TABLES.md).
 use Prim.Native.Nat.{ℕ}
 use mathlib.Core.List.{List}
 use mathlib.Core.Bool.{Bool}

@@ -1,4 +1,5 @@
--- The walk of matching, before item i of the pattern p and item j of the target t: its state, each step, and the ends.
+-- Serves document 01, 'The relations themselves': the walk of matching, before item i of the pattern p and item j of the target t:
+-- its state, each step, and the ends.
 use mathlib.Core.Path.{_≡_, refl, sym, ap, _∙_}
 use mathlib.Core.Logic.{inl, inr, _≢_}
 use mathlib.Core.List.{List, [], _∷_, _++_}

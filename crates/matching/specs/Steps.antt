@@ -1,4 +1,5 @@
--- What the functions of matching ensure of each step, and how a step carries the walk on.
+-- Serves document 01, 'The relations themselves': what the functions of matching ensure of each step, and how a step carries the
+-- walk on.
 use mathlib.Core.Path.{_≡_, refl, sym, ap, _∙_}
 use mathlib.Core.Bool.{Bool, true, false}
 use mathlib.Core.Logic.{_⊎_, inl, inr, _≢_}
@@ -17,7 +18,7 @@ use Rattle.matching.specs.Going.{Going, going-symbol, going-clash, going
 -- the term at item j of t ends before item e
 pub record Ends (sig t : List ℕ) (j e : ℕ) : Type 0 where
   pub next : Next (arity sig) (items t) j e
-  pub some : j < e
+  pub ahead : j < e
   pub low : e ≤ length t / 2
 
 -- a pattern variable x against the items from j to e: tab′ is the table afterwards
@@ -27,7 +28,7 @@ pub record Agreed (t tab tab′ : List ℕ) (x j e : ℕ) (r : Bool) : Type 0 wh
 
 -- item i of the pattern against the target from item j on
 pub record Stepped (sig p t tab tab′ : List ℕ) (i j r : ℕ) : Type 0 where
-  pub none : r ≡ 0 → Instance sig p t → ⊥
+  pub refuted : r ≡ 0 → Instance sig p t → ⊥
   pub more : r ≢ 0 → Going sig p t tab′ (i + 1) r
   pub kept : (y q : ℕ) → getD tab′ y 0 ≡ suc q → (getD tab y 0 ≡ suc q) ⊎ ((q ≡ j) × (32768 ≤ itemAt p i))
 
@@ -39,14 +40,14 @@ pub record Met (p t : List ℕ) (i j : ℕ) (r : Bool) : Type 0 where
 module _ (sig p t tab : List ℕ) (i j : ℕ) (g : Going sig p t tab i j) (il : i < length p / 2) where
   pub stepped-clash : itemAt p i < 32768 → itemAt t j ≢ itemAt p i → Stepped sig p t tab tab i j 0
   stepped-clash f n = record {
-    none = λ z. going-clash sig p t tab i j g il f n;
+    refuted = λ z. going-clash sig p t tab i j g il f n;
     more = λ z. absurd (z refl);
     kept = λ y q e. inl e;
   }
 
   pub stepped-symbol : itemAt p i < 32768 → itemAt t j ≡ itemAt p i → Stepped sig p t tab tab i j (j + 1)
   stepped-symbol f e = record {
-    none = λ z. absurd (omega arith);
+    refuted = λ z. absurd (omega arith);
     more = λ z. going-symbol sig p t tab i j g il f e;
     kept = λ y q h. inl h;
   }
@@ -69,18 +70,18 @@ module _ (sig p t tab : List ℕ) (i j : ℕ) (g : Going sig p t tab i j) (il : 
         go (suc b) z = inl (sym (ap (λ (l : List ℕ). getD l y 0) (a .old b z .0)) ∙ h)
 
     pub stepped-agrees : r ≡ true → Stepped sig p t tab tab′ i j e
-    stepped-agrees h = record { none = λ z. absurd (omega (arith, n .some)); more = λ z. go (getD tab x 0) refl; kept = kept-var }
+    stepped-agrees h = record { refuted = λ z. absurd (omega (arith, n .ahead)); more = λ z. go (getD tab x 0) refl; kept = kept-var }
       where
         go : (b : ℕ) → getD tab x 0 ≡ b → Going sig p t tab′ (i + 1) e
-        go zero z = rw (a .new z .1) (going-new sig p t tab i j g il f e (n .next) (n .some) (n .low) xl z)
-        go (suc b) z = rw (a .old b z .0) (going-old sig p t tab i j g il f e (n .next) (n .some) (n .low) b z (a .old b z .1 .holds h))
+        go zero z = rw (a .new z .1) (going-new sig p t tab i j g il f e (n .next) (n .ahead) (n .low) xl z)
+        go (suc b) z = rw (a .old b z .0) (going-old sig p t tab i j g il f e (n .next) (n .ahead) (n .low) b z (a .old b z .1 .holds h))
 
     pub stepped-differs : r ≡ false → Stepped sig p t tab tab′ i j 0
-    stepped-differs h = record { none = λ k. go (getD tab x 0) refl; more = λ k. absurd (k refl); kept = kept-var }
+    stepped-differs h = record { refuted = λ k. go (getD tab x 0) refl; more = λ k. absurd (k refl); kept = kept-var }
       where
         go : (b : ℕ) → getD tab x 0 ≡ b → Instance sig p t → ⊥
         go zero z = absurd (let k : true ≡ false = sym (a .new z .0) ∙ h in let o : _≡_ {A = ℕ} 0 1 = cc in omega arith)
-        go (suc b) z = going-differs sig p t tab i j g il f e (n .next) (n .some) (n .low) b z (a .old b z .1 .fails h)
+        go (suc b) z = going-differs sig p t tab i j g il f e (n .next) (n .ahead) (n .low) b z (a .old b z .1 .fails h)
 
 -- the bindings are to variables
 abbrev pub Lone : List ℕ → List ℕ → Type 0

@@ -1,4 +1,5 @@
--- Opening, insert and delete: what the tables answer is what the store answers, and afterwards they stand for the store afterwards.
+-- Document 01, 'Store': what opening, insert and delete answer on the tables is what the store answers, and afterwards the tables
+-- stand for the store afterwards.
 use Prim.Native.Nat.{ℕ, zero, suc, _+_, _≤_, _<_}
 use mathlib.Core.Path.{_≡_, refl, sym}
 use mathlib.Core.List.{List}

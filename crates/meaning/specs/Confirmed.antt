@@ -1,4 +1,5 @@
--- The retrievals and the solver on tables that stand for a store answer what the store answers.
+-- Document 01, 'The relations themselves' and 'The solver's record': the retrievals and the solver on tables that stand for a store
+-- answer what the store answers.
 use Prim.Native.Nat.{ℕ, _*_, _≤_, _<_}
 use mathlib.Core.Path.{_≡_, refl, sym, ap, _∙_}
 use mathlib.Core.Logic.{_↔_}
@@ -33,7 +34,7 @@ use Rattle.retrieve.specs.Retrieving.{Found, foundOf, refusedBy, candidatesOf, 
 use Rattle.retrieve.specs.Solving.{solvedNumber, unsolvable, solvedBy, Solving}
 use Rattle.store.specs.Means.{filled, treeIn}
 use Rattle.meaning.specs.Stand.{Stand, treesOf, stand-ample, stand-slots, in-use}
-use Rattle.meaning.specs.Lists.{members-slots, listing-listed}
+use Rattle.meaning.specs.Lists.{members-slots}
 use Rattle.definitions.specs.Applies.{refusalIn}
 use Rattle.meaning.specs.Keyed.{countIn}
 use Rattle.meaning.specs.Solved.{stands-iff, Solves, recordAnswer, recordLength, solved-means}
@@ -121,7 +122,7 @@ module _ (T : Tables) (st : Store) (h : Stand T st) where
       fit : (b : Bool) (cs ms : List ℕ) → pick b (refusedBy 15 out₀) (record { refused = 0; candidates = length cs; answers = length ms; out = sets out₀ 0 (listed ms) })
           ≡ foundIn (pick b (refused 15) (found (length cs) ms)) out₀
       fit true cs ms = refl
-      fit false cs ms = rw (listing-listed ms)
+      fit false cs ms = refl
 
       go : (b : Bool) → ltb 4 r ≡ b → (c : Bool) → eqb (refusal (st .signature) q) 0 ≡ c
           → pick b (refusedBy 3 out₀) (pick c (last (members (candidatesOf T r q)) (members (w .answers))) (refusedBy (refusal (st .signature) q) out₀))

@@ -1,4 +1,4 @@
--- The number of distinct keys of a store is the number that the key table counts by; refusal 12.
+-- Document 01, 'Numbers of refusal': the number of distinct keys of a store is the number that the key table counts by; refusal 12.
 use Prim.Native.Nat.{ℕ, zero, suc, _+_, _≤_, _<_}
 use mathlib.Core.Path.{_≡_, refl, subst}
 use mathlib.Core.Logic.{_⊎_, _↔_, ⊎-elim}

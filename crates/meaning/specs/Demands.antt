@@ -1,4 +1,5 @@
--- THE THREE DEMANDS, over every run of calls: an opening, from any memory, and then any calls with any arguments, refused ones too.
+-- THE THREE DEMANDS (document 01, 'What the contracts owe'), over every run of calls: an opening, from any memory, and then any
+-- calls with any arguments, refused ones too.
 --
 -- How to read it. T and S are the eight lent tables whole, before and after a call; out₀ and out the answer buffer before and after;
 -- st a store; c a call; r its reply: the number of the refusal or 0, and up to two numbers more (retrieve: candidates, answers; solve:
@@ -37,14 +38,14 @@ use Rattle.definitions.specs.Relations.{Stands}
 use Rattle.definitions.specs.Records.{Unifier, IsRecord, Short}
 use Rattle.theory.specs.Flat.{Item}
 use Rattle.theory.specs.Items.{items, shift}
-use Rattle.slots.specs.Slots.{members}
+use Rattle.slots.specs.Slots.{members, listed}
 use Rattle.retrieve.specs.Retrieving.{candidatesOf}
 use Rattle.definitions.specs.ReadBack.{Reads, readFields}
 use Rattle.definitions.specs.Sound.{Sound}
 use Rattle.definitions.specs.Applies.{Applies, AppliesNumber}
 use Rattle.definitions.specs.AppliesLowest.{refused-lowest, refused-exactly}
 use Rattle.definitions.specs.Readable.{Ascending, ascending-nodup, answers-are, answers-ascend, candidates-are, candidates-ascend, solve-none, solve-long, solve-writes, solve-solved}
-use Rattle.definitions.specs.Store.{Store, Call, Answer, refused, answered, empty, after, openWith, withKey, retrieve, solve, keyed, answers, candidates as candidatesIn, listing, written}
+use Rattle.definitions.specs.Store.{Store, Call, Answer, refused, answered, empty, after, openWith, withKey, retrieve, solve, keyed, answers, candidates as candidatesIn, written}
 use Rattle.meaning.specs.Stand.{Stand, stand-ample, stand-sound}
 use Rattle.meaning.specs.Confirmed.{candidates-are as walked-are}
 use Rattle.meaning.specs.Means.{call-means}
@@ -135,7 +136,7 @@ pub record Retrieval (st : Store) (relation : ℕ) (q out₀ out : List ℕ) (r 
   pub exactly : (s : ℕ) → In s slots ↔ ((t : List ℕ) × (st .held s ≡ some t) × Stands (st .signature) relation t q)
   -- their number, and their listing in the first bytes of the buffer, no byte beyond
   pub number : r .second ≡ length slots
-  pub bytes : out ≡ listing slots ++ drop (length (listing slots)) out₀
+  pub bytes : out ≡ listed slots ++ drop (length (listed slots)) out₀
   -- the slots that the formula of the relation gives, each once: as many as the first number says
   pub candidates : List ℕ
   pub distinct : NoDup candidates
@@ -155,7 +156,7 @@ demand-2 T S st relation room q out₀ out r k d z =
       ascending = answers-ascend st g relation q;
       exactly = answers-are st g relation q (w .checked);
       number = ap (λ (x : Reply). x .second) e;
-      bytes = m .bytes ∙ ap (λ (a : Answer). sets out₀ 0 (written a)) (w .is) ∙ front-bytes (listing (answers st relation q)) out₀ (let l = w .fits in omega (arith, l, room-of T S out₀ relation room q out r d));
+      bytes = m .bytes ∙ ap (λ (a : Answer). sets out₀ 0 (written a)) (w .is) ∙ front-bytes (listed (answers st relation q)) out₀ (let l = w .fits in omega (arith, l, room-of T S out₀ relation room q out r d));
       candidates = candidatesIn st relation q;
       distinct = ascending-nodup (candidatesIn st relation q) (candidates-ascend st g relation q);
       formulas = candidates-are st g relation q (w .checked);

@@ -1,4 +1,4 @@
--- The key question on tables that stand for a store answers what the store answers.
+-- Document 01, 'Paths and keys': the key question on tables that stand for a store answers what the store answers.
 use Prim.Native.Nat.{ℕ, _*_, _<_}
 use mathlib.Core.Path.{_≡_, refl}
 use mathlib.Core.Logic.{_↔_}
@@ -28,7 +28,7 @@ use Rattle.store.specs.Means.{treeIn}
 use Rattle.store.specs.Changes.{KeysOf}
 use Rattle.store.specs.Question.{key-means}
 use Rattle.meaning.specs.Stand.{Stand, treesOf, stand-ample}
-use Rattle.meaning.specs.Lists.{members-slots, listing-listed}
+use Rattle.meaning.specs.Lists.{members-slots}
 
 -- a slot in use whose term has a key, as a test
 abbrev pub holdsKey : Store → Key → ℕ → Bool
@@ -72,7 +72,7 @@ module _ (T : Tables) (st : Store) (h : Stand T st) where
     where
       fit : (b : Bool) → pick b (listing 15 0 out) (listing 0 (length (keyed st k)) (sets out 0 (listed (keyed st k)))) ≡ shown (pick b (refused 15) (slots (keyed st k))) out
       fit true = refl
-      fit false = rw (listing-listed (keyed st k))
+      fit false = refl
 
       go : (b : Bool) → isKey (st .signature) k ≡ b
           → pick b (pick (ltb (length out) (2 * length (members (slotsWith T k)))) (listing 15 0 out) (listing 0 (length (members (slotsWith T k))) (sets out 0 (listed (members (slotsWith T k)))))) (listing 9 0 out)

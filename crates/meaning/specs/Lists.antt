@@ -1,4 +1,5 @@
--- The listings of sets of slots are the listings of stores, and the smallest free slot of the words is that of the store.
+-- Serves document 01, 'Store' and 'Numbers of refusal': the listings of sets of slots are the listings of stores, and the smallest
+-- free slot of the words is that of the store.
 use Prim.Native.Nat.{ℕ, zero, suc, _+_, _-_, _*_, _≤_, _<_}
 use mathlib.Core.Path.{_≡_, refl}
 use mathlib.Core.Logic.{_↔_}
@@ -12,7 +13,7 @@ use Rattle.laws.specs.Choice.{pick}
 use Rattle.slots.specs.Slots.{has, others, members, membersFrom, listed}
 use Rattle.layout.specs.Layout.{usedOf, isUsed}
 use Rattle.definitions.specs.Spelt.{clash}
-use Rattle.definitions.specs.Store.{Store, slotsFrom, slotsWith, inUse, freeFrom, firstFree, listing}
+use Rattle.definitions.specs.Store.{Store, slotsFrom, slotsWith, inUse, freeFrom, firstFree}
 use Rattle.store.specs.Tables.{leastFrom, freeSlot}
 use Rattle.slots.specs.Sets.{Words}
 use Rattle.store.specs.Kept.{has-others}
@@ -66,14 +67,3 @@ free-first u st w h = least-free (others (usedOf u)) st 512 0 (λ x a b. at x (o
         go zero l = refl
         go (suc zero) l = refl
         go (suc (suc n)) l = absurd (omega arith)
-
--- listings
-pub listing-listed : (l : List ℕ) → listing l ≡ listed l
-unfolding listing listed
-listing-listed [] = refl
-listing-listed (s ∷ l) = rw (listing-listed l)
-
-pub listing-length : (l : List ℕ) → length (listing l) ≡ 2 * length l
-unfolding listing
-listing-length [] = refl
-listing-length (s ∷ l) = let h = listing-length l in omega arith

@@ -1,4 +1,5 @@
--- Every call on tables that stand for a store does what the call on the store does.
+-- Serves the demands (document 01, 'What the contracts owe'): every call on tables that stand for a store does what the call on the
+-- store does.
 use Prim.Native.Nat.{ℕ, _*_}
 use mathlib.Core.Path.{_≡_, refl, sym, ap, _∙_}
 use mathlib.Core.Bool.{Bool, true, false}
@@ -45,26 +46,26 @@ told-one a b c x y z p q r = rw (p, q, r)
 -- ANSWERS OF THE CALLS THAT CHANGE: no second number, no bytes
 record Plain (a : Answer) : Type 0 where
   pub is : replyOf a ≡ told (refusalIn a) (countIn a) 0
-  pub none : written a ≡ []
+  pub unwritten : written a ≡ []
 
 plain-open : (b : Bool) → Plain (pick b Abstract.opened (Abstract.refused 2))
-plain-open true = record { is = refl; none = refl }
-plain-open false = record { is = refl; none = refl }
+plain-open true = record { is = refl; unwritten = refl }
+plain-open false = record { is = refl; unwritten = refl }
 
 plain-slot : (s n : ℕ) (b : Bool) → Plain (pick b (Abstract.slot s) (Abstract.refused n))
-plain-slot s n true = record { is = refl; none = refl }
-plain-slot s n false = record { is = refl; none = refl }
+plain-slot s n true = record { is = refl; unwritten = refl }
+plain-slot s n false = record { is = refl; unwritten = refl }
 
 plain-insert : (s n : ℕ) (a b c : Bool) → Plain (pick a (pick b (Abstract.refused 11) (pick c (Abstract.refused 12) (Abstract.slot s))) (Abstract.refused n))
-plain-insert s n false b c = record { is = refl; none = refl }
-plain-insert s n true true c = record { is = refl; none = refl }
-plain-insert s n true false true = record { is = refl; none = refl }
-plain-insert s n true false false = record { is = refl; none = refl }
+plain-insert s n false b c = record { is = refl; unwritten = refl }
+plain-insert s n true true c = record { is = refl; unwritten = refl }
+plain-insert s n true false true = record { is = refl; unwritten = refl }
+plain-insert s n true false false = record { is = refl; unwritten = refl }
 
 changes : (a : Answer) (st : Store) (o : Outcome) (S : Tables) (out₀ : List ℕ) (n v : ℕ) → Plain a → Does o a st → n ≡ o .refused → v ≡ o .value → S ≡ o .after → Meant a st S out₀ out₀ (told n v 0)
 changes a st o S out₀ n v p d e f g = record {
   reply = told-one n v 0 _ _ 0 (e ∙ d .number) (f ∙ d .value) refl ∙ sym (p .is);
-  bytes = ap (λ (w : List ℕ). sets out₀ 0 w) (sym (p .none));
+  bytes = ap (λ (w : List ℕ). sets out₀ 0 w) (sym (p .unwritten));
   stand = rw g (d .stand);
 }
 

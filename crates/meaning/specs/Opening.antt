@@ -1,4 +1,4 @@
--- An opening, on all memory.
+-- Document 01, 'Store': an opening, on all memory.
 use Prim.Native.Nat.{ℕ}
 use mathlib.Core.Path.{_≡_, refl, sym, ap, _∙_}
 use mathlib.Core.Bool.{Bool, true, false}

@@ -26,13 +26,13 @@ use Rattle.store.specs.declared.Listed.{Listed}
 -- a term is refused with 5, 6, 7 or 8, or not at all
 pub term-numbers : (P : ℕ → Type 0) (sig t : List ℕ) → P 0 → P 5 → P 6 → P 7 → P 8 → P (refusal sig t)
 unfolding refusal
-term-numbers P sig t none size odd symbol shape = go (ltb 64 (length t)) (eqb (length t) 0) (eqb (length t % 2) 1) (itemsGood (length sig) t) (eqb (span sig t 1) (length t))
+term-numbers P sig t taken size odd symbol shape = go (ltb 64 (length t)) (eqb (length t) 0) (eqb (length t % 2) 1) (itemsGood (length sig) t) (eqb (span sig t 1) (length t))
   where
     go : (a b c d e : Bool) → P (pick a 5 (pick b 6 (pick c 6 (pick d (pick e 0 8) 7))))
     go true b c d e = size
     go false true c d e = odd
     go false false true d e = odd
-    go false false false true true = none
+    go false false false true true = taken
     go false false false true false = shape
     go false false false false e = symbol
 

@@ -1,4 +1,5 @@
--- The decisions and the solver's record of the running code are those of the definitions.
+-- Serves document 01, 'The relations themselves' and 'The solver's record': the decisions and the record of the running code are
+-- those of the definitions.
 use Prim.Native.Nat.{ℕ, zero, suc, _+_, _≤_, _<_}
 use mathlib.Core.Path.{_≡_, refl, sym, ap, _∙_}
 use mathlib.Core.Logic.{_↔_}

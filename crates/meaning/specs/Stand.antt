@@ -1,4 +1,4 @@
--- The lent tables stand for a store: docs/TABLES.md; field by field it is said in crate store (Means).
+-- Document 01, 'Store': the lent tables stand for a store (docs/TABLES.md); field by field it is said in crate store (Means).
 use Prim.Native.Nat.{ℕ, _<_}
 use mathlib.Core.Path.{_≡_, refl, _∙_}
 use mathlib.Core.Bool.{Bool, true, false}

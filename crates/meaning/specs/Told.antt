@@ -1,4 +1,4 @@
--- What a reply that is not refused tells of the store's answer.
+-- Serves demands 2 and 3 (document 01, 'What the contracts owe'): what a reply that is not refused tells of the store's answer.
 use Prim.Native.Nat.{ℕ, _*_, _≤_}
 use mathlib.Core.Path.{_≡_, refl, sym, ap, _∙_}
 use mathlib.Core.Bool.{Bool, true, false}
@@ -19,9 +19,10 @@ use Rattle.definitions.specs.Sound.{Sound}
 use Rattle.definitions.specs.Applies.{refusalIn}
 use Rattle.definitions.specs.AppliesLowest.{refused-is}
 use Rattle.definitions.specs.Readable.{use-held}
-use Rattle.definitions.specs.Store.{Store, Answer, refused, found, solved, answered, answers, candidates, recorded, longFrom, listing, withKey, retrieve, solve}
+use Rattle.definitions.specs.Store.{Store, Answer, refused, found, solved, answered, answers, candidates, recorded, longFrom, withKey, retrieve, solve}
 use Rattle.definitions.specs.Store as Abstract
-use Rattle.meaning.specs.Lists.{listing-length}
+use Rattle.slots.specs.Slots.{listed}
+use Rattle.slots.proofs.Listing.{length-listed}
 use Rattle.meaning.specs.Solved.{front-sets}
 use Rattle.meaning.specs.Runs.{Reply, replyOf, Called, asks, retrieves, solves}
 
@@ -46,7 +47,7 @@ refused-number a n z e = refused-is a n z (sym (reply-refusal a) ∙ e)
 pub record Told (st : Store) (relation room : ℕ) (q : List ℕ) : Type 0 where
   pub is : answered st (retrieve relation q room) ≡ found (length (candidates st relation q)) (answers st relation q)
   pub checked : refusal (st .signature) q ≡ 0
-  pub fits : length (listing (answers st relation q)) ≤ room
+  pub fits : length (listed (answers st relation q)) ≤ room
 
 pub retrieve-found : (st : Store) (relation room : ℕ) (q : List ℕ) → replyOf (answered st (retrieve relation q room)) .refused ≡ 0 → Told st relation room q
 unfolding answered
@@ -63,7 +64,7 @@ retrieve-found st relation room q = go (ltb 4 relation) refl (eqb (refusal (st .
     go false e true f false g z = record {
       is = rw (e, f, g);
       checked = eqb-true (refusal (st .signature) q) 0 f;
-      fits = (let l = ltb-false room (2 * length (answers st relation q)) g in omega (arith, l, listing-length (answers st relation q)));
+      fits = (let l = ltb-false room (2 * length (answers st relation q)) g in omega (arith, l, length-listed (answers st relation q)));
     }
 
 -- a solve that is not refused

@@ -1,4 +1,5 @@
--- What is answered of one stored term and one question: document 01, refusals 2 and 5 to 8, and 'unifiable'.
+-- Document 01, 'The relations themselves' (unifiable) and 'Numbers of refusal' (2, 5 to 8): what is answered of one stored term and
+-- one question.
 use Prim.Native.Nat.{ℕ, min}
 use mathlib.Core.Path.{_≡_, refl, sym, ap, _∙_}
 use mathlib.Core.List.{List}

@@ -1,4 +1,5 @@
--- Document 01's table of candidates is what the walk through the tables finds: the definitions' `agree` against the walk's `Agree`.
+-- The table of candidates of document 01, 'Paths and keys', is what the walk through the tables finds: the definitions' `agree`
+-- against the walk's `Agree`.
 use Prim.Native.Nat.{ℕ, _≤_, _<_}
 use mathlib.Core.Path.{_≡_, refl, sym, ap, _∙_}
 use mathlib.Core.Logic.{_⊎_, inl, inr, _↔_, ⊎-elim}
@@ -11,7 +12,7 @@ use lib.ListN.{getD}
 use Rattle.laws.specs.Choice.{pick}
 use Rattle.keys.specs.Keys.{Tm, Args, node, nil, cons, endOf}
 use Rattle.terms.specs.Terms.{Signed, refusal}
-use Rattle.definitions.specs.Trees.{count, Symbol, Variable, Shaped, Shapes, treeOf}
+use Rattle.definitions.specs.Trees.{countArgs, IsSymbol, Variable, Shaped, Shapes, treeOf}
 use Rattle.definitions.specs.Candidates.{agree, agreeAll, opens, stars, candidate, isCandidate}
 use Rattle.definitions.specs.Spelt.{end-variable, end-symbol, shaped-count, tree-shaped}
 use Rattle.paths.specs.Cand.{Agree, Agrees}
@@ -72,20 +73,20 @@ module _ (qv tv : Bool) (x y : ℕ) (all : Bool) (All : Type 0) where
 
 module _ (qv tv : Bool) (sig : List ℕ) (s : Signed sig) where
   mutual
-    unfolding agree Agree Shaped count
+    unfolding agree Agree Shaped countArgs
 
     pub agree-means : (q t : Tm) → Shaped sig q → Shaped sig t → (agree qv tv q t ≡ true) ↔ Agree qv tv q t
     agree-means (node x us) (node y vs) w v = go (w .0) (v .0)
         (λ e. agreeAll-means us vs (w .1) (v .1) (shaped-count sig (s .short) x us w ∙ ap (λ (z : ℕ). getD sig z 0) e ∙ sym (shaped-count sig (s .short) y vs v)))
       where
-        go : (Symbol sig x × (count us ≡ getD sig x 0)) ⊎ (Variable x × (count us ≡ 0)) → (Symbol sig y × (count vs ≡ getD sig y 0)) ⊎ (Variable y × (count vs ≡ 0))
+        go : (IsSymbol sig x × (countArgs us ≡ getD sig x 0)) ⊎ (Variable x × (countArgs us ≡ 0)) → (IsSymbol sig y × (countArgs vs ≡ getD sig y 0)) ⊎ (Variable y × (countArgs vs ≡ 0))
             → (x ≡ y → (agreeAll qv tv us vs ≡ true) ↔ Agrees qv tv us vs) → Table qv tv x y (agreeAll qv tv us vs) (Agrees qv tv us vs)
         go (inl a) (inl b) ih = both-symbols qv tv x y _ _ (omega (arith, a .0, s .short)) (omega (arith, b .0, s .short)) ih
         go (inl a) (inr b) ih = stored-variable qv tv x y _ _ (omega (arith, a .0, s .short)) (b .0 .0)
         go (inr a) (inl b) ih = question-variable qv tv x y _ _ (a .0 .0) (omega (arith, b .0, s .short))
         go (inr a) (inr b) ih = both-variables qv tv x y _ _ (a .0 .0) (b .0 .0)
 
-    agreeAll-means : (us vs : Args) → Shapes sig us → Shapes sig vs → count us ≡ count vs → (agreeAll qv tv us vs ≡ true) ↔ Agrees qv tv us vs
+    agreeAll-means : (us vs : Args) → Shapes sig us → Shapes sig vs → countArgs us ≡ countArgs vs → (agreeAll qv tv us vs ≡ true) ↔ Agrees qv tv us vs
     agreeAll-means nil nil w v c = ((λ e. tt), (λ e. refl))
     agreeAll-means nil (cons u vs) w v c = absurd (omega arith)
     agreeAll-means (cons u us) nil w v c = absurd (omega arith)

@@ -1,4 +1,4 @@
--- The candidate walk through the tables, and what it means.
+-- Serves document 01, 'Paths and keys': the candidate walk through the tables, and what it means.
 use Prim.Native.Nat.{ℕ, suc, _+_, _-_, _*_, _≤_, _<_}
 use mathlib.Core.Path.{_≡_, sym, ap, _∙_, subst}
 use mathlib.Core.Logic.{_⊎_, inl, inr, _↔_, ⊎-elim}
@@ -11,14 +11,14 @@ use lib.Dec.{T, leb}
 use Rattle.laws.specs.Choice.{pick}
 use Rattle.chains.specs.Chains.{find}
 use Rattle.keys.specs.Keys.{Place, step, key, Tm, Args, node, nil, cons, endOf, HasKey, subAt, topOf, down, nth, down-some}
-use Rattle.definitions.specs.Trees.{count}
+use Rattle.definitions.specs.Trees.{countArgs}
 use Rattle.paths.specs.Rep.{lab, At, kid, Den, Rep, find-den, find-there}
 use Rattle.paths.specs.Store.{Stored, KeyIn}
 
 -- every symbol has as many arguments as its arity, at most eight, and is below 256
 unfoldable mutual
   pub Wf : (ℕ → ℕ) → Tm → Type 0
-  Wf ar (node x us) = (count us ≡ ar (endOf x)) × (ar (endOf x) ≤ 8) × (endOf x < 257) × Wfs ar us
+  Wf ar (node x us) = (countArgs us ≡ ar (endOf x)) × (ar (endOf x) ≤ 8) × (endOf x < 257) × Wfs ar us
 
   pub Wfs : (ℕ → ℕ) → Args → Type 0
   Wfs ar nil = Unit {0}
@@ -88,7 +88,7 @@ module _ (qv tv : Bool) where
           fro z = rw (u, z)
 
       mutual
-        unfolding walkT Agree Wf subAt nth count
+        unfolding walkT Agree Wf subAt nth countArgs
 
         -- slot s is in the result exactly if it is in W and its term at this place agrees
         pub walkT-means : (q : Tm) (n : ℕ) (P : Place) (W : ℕ → Type 0) (v : Tm) → At label n P → subAt P t ≡ some v → Wf ar q → Wf ar v → walkT q n W s ↔ (W s × Agree q v)
@@ -121,7 +121,7 @@ module _ (qv tv : Bool) where
                     inr (ih (find-den link label mem (Stored st) r n P (endOf x) a (w .2) (b .0)) (z .0) .1 ((h .0, b), z .1))) (h .1)
 
         walkA-means : (us : Args) (n : ℕ) (P : Place) (e k i m : ℕ) (W : ℕ → Type 0) (y : ℕ) (all vs : Args) → Den label k P e → endOf y ≡ e → subAt P t ≡ some (node y all) → Wfs ar us → Wfs ar vs
-            → m ≡ k * 8 + i → i + count us ≤ 8 → ((j : ℕ) → nth (i + j) all ≡ nth j vs) → count us ≡ count vs → walkA us m W s ↔ (W s × Agrees us vs)
+            → m ≡ k * 8 + i → i + countArgs us ≤ 8 → ((j : ℕ) → nth (i + j) all ≡ nth j vs) → countArgs us ≡ countArgs vs → walkA us m W s ↔ (W s × Agrees us vs)
         walkA-means nil n P e k i m W y all vs d z u w wv q l f c = ((λ h. (h, tt)), (λ h. h .0))
         walkA-means (cons p us) n P e k i m W y all nil d z u w wv q l f c = absurd (omega arith)
         walkA-means (cons p us) n P e k i m W y all (cons v vs) d z u w wv q l f c =

@@ -1,4 +1,4 @@
--- How many distinct keys the stored terms have, and refusal 12.
+-- Document 01, 'Numbers of refusal': how many distinct keys the stored terms have, and refusal 12.
 use Prim.Native.Nat.{ℕ, zero, suc, _+_, _-_, _*_, _/_, _%_, _≤_, _<_}
 use mathlib.Core.Path.{_≡_, refl, sym, ap, _∙_, subst}
 use mathlib.Core.Logic.{_⊎_, inl, inr, _↔_, ⊎-elim}
@@ -14,7 +14,7 @@ use Rattle.laws.specs.Choice.{pick}
 use Rattle.keys.specs.Keys.{Place, Key, key}
 use Rattle.paths.specs.Rep.{lab, Den, Rep, Full, den-fun, den-inj}
 use Rattle.paths.specs.Free.{freeOf, frees}
-use Rattle.paths.specs.Insert.{DenK, RK, Lack, none, has, new, With}
+use Rattle.paths.specs.Insert.{DenK, RK, Lack, done, has, new, With}
 
 -- R has n distinct keys
 pub record Distinct (R : ℕ → Place → ℕ → Type 0) (n : ℕ) : Type 0 where
@@ -104,7 +104,7 @@ module _ (link label : List ℕ) (mem : ℕ → ℕ → Type 0) (R : ℕ → Pla
     pub many : length keys ≡ m
 
   miss : (Ks : List Key) (m : ℕ) → NoDup Ks → Lack label Ks m → Miss Ks m
-  miss Ks m n none = record { keys = []; nodup = tt; from = λ K i. absurd i; into = λ K i. absurd i; many = refl }
+  miss Ks m n done = record { keys = []; nodup = tt; from = λ K i. absurd i; into = λ K i. absurd i; many = refl }
   miss Ks m n (has {K = J} {Ks = L} {m = m′} k d l) = let u = miss L m′ (n .1) l in record {
     keys = u .keys;
     nodup = u .nodup;

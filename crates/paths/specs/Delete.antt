@@ -1,4 +1,4 @@
--- Delete: each key of a term, the last first, loses the slot, and is freed where it has none left.
+-- Serves document 01, 'Store': in a delete each key of a term, the last first, loses the slot, and is freed where it has none left.
 use Prim.Native.Nat.{ℕ, zero, suc, _+_, _-_, _*_, _/_, _%_, _≤_, _<_}
 use mathlib.Core.Path.{_≡_, refl, sym, ap, _∙_, subst}
 use mathlib.Core.Logic.{_⊎_, inl, inr, _↔_, ⊎-elim}
@@ -100,13 +100,13 @@ module _ (S : Type 0) (mem : S → ℕ → ℕ → Type 0) (mark unmark : S → 
             keep′ : (j : ℕ) (K : Key) → (j ≡ k → ⊥) → DenK (σ .label) j K → DenK (set (σ .label) k 0) j K
             keep′ j (key Q f) z b = den-stay (σ .link) (σ .label) (mem sets) (Minus R s P e) rep′ k P e d (λ t m. empty-yes sets k t ok′ (d .low) q m) full′ (g .links) (g .labels) j Q f z b
         go false q = record {
-          good = record { rep = rep′; full = λ j m z o. some j m z (ℕ-discrete j k); links = g .links; labels = g .labels; ok = ok′ };
+          good = record { rep = rep′; full = λ j m z o. slot-left j m z (ℕ-discrete j k); links = g .links; labels = g .labels; ok = ok′ };
           keep = λ j K z b. b;
         }
           where
-            some : (j : ℕ) → j < 4096 → (getD (σ .label) j 0 ≡ 0 → ⊥) → Dec (j ≡ k) → (t : ℕ) × mem sets j t
-            some j m z (yes y) = rw y (empty-no sets k ok′ (d .low) q)
-            some j m z (no y) = full′ j m z y
+            slot-left : (j : ℕ) → j < 4096 → (getD (σ .label) j 0 ≡ 0 → ⊥) → Dec (j ≡ k) → (t : ℕ) × mem sets j t
+            slot-left j m z (yes y) = rw y (empty-no sets k ok′ (d .low) q)
+            slot-left j m z (no y) = full′ j m z y
 
     dens-keep : (σ τ : St S) (k : ℕ) (P : Place) (e : ℕ) → Den (σ .label) k P e → ((j : ℕ) (K : Key) → (j ≡ k → ⊥) → DenK (σ .label) j K → DenK (τ .label) j K)
         → (ks : List ℕ) (Ks : List Key) → (In (key P e) Ks → ⊥) → Dens (σ .label) ks Ks → Dens (τ .label) ks Ks

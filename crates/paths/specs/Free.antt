@@ -1,4 +1,4 @@
--- The free keys, and how many there are.
+-- Serves document 01, 'Store' ('freed keys are used again'): the free keys, and how many there are.
 use Prim.Native.Nat.{ℕ, zero, suc, _+_, _-_, _*_, _/_, _%_, _≤_, _<_}
 use mathlib.Core.Path.{_≡_, refl, sym, ap, _∙_}
 use mathlib.Core.Logic.{_⊎_, inl, inr, _↔_, ⊎-elim}
@@ -52,7 +52,7 @@ free-nodup label (suc n) = go (eqb (getD label n 0) 0) (free-nodup label n)
 abbrev pub frees : List ℕ → ℕ
 frees label = length (freeOf label 4096)
 
--- where one is free, the lookup of label 0 answers one
+-- where one is free, the search of label 0 answers one
 pub free-found : (link label : List ℕ) → Chains link label 4096 → 0 < frees label → find link label 0 < 4096
 free-found link label c h = go (freeOf label 4096) (free-in label 4096) h
   where

@@ -1,4 +1,4 @@
--- Insert: each key of a term found or added, and the slot's bit set.
+-- Serves document 01, 'Store': in an insert each key of a term is found or added, and the slot's bit set.
 use Prim.Native.Nat.{ℕ, zero, suc, _+_, _-_, _*_, _/_, _%_, _≤_, _<_}
 use mathlib.Core.Path.{_≡_, refl, sym, ap, _∙_, subst}
 use mathlib.Core.Logic.{_⊎_, inl, inr, _↔_, ⊎-elim}
@@ -53,13 +53,13 @@ dens-map label label′ f (k ∷ ks) (K ∷ Ks) d = (f k K (d .0), dens-map labe
 
 -- m of the keys have no number
 pub data Lack (label : List ℕ) : List Key → ℕ → Type 0 where
-  none : Lack label [] 0
+  done : Lack label [] 0
   has : {K : Key} {Ks : List Key} {m : ℕ} (k : ℕ) → DenK label k K → Lack label Ks m → Lack label (K ∷ Ks) m
   new : {K : Key} {Ks : List Key} {m : ℕ} → ((k : ℕ) → DenK label k K → ⊥) → Lack label Ks m → Lack label (K ∷ Ks) (suc m)
 
 pub lack-map : (label label′ : List ℕ) (K₀ : Key) → ((k : ℕ) (K : Key) → DenK label k K → DenK label′ k K) → ((k : ℕ) (K : Key) → DenK label′ k K → (K ≡ K₀ → ⊥) → DenK label k K)
     → (Ks : List Key) (m : ℕ) → (In K₀ Ks → ⊥) → Lack label Ks m → Lack label′ Ks m
-lack-map label label′ K₀ f g Ks m o none = none
+lack-map label label′ K₀ f g Ks m o done = done
 lack-map label label′ K₀ f g Ks m o (has {K = K} {Ks = L} k d l) = has k (f k K d) (lack-map label label′ K₀ f g L _ (λ i. o (inr i)) l)
 lack-map label label′ K₀ f g Ks m o (new {K = K} {Ks = L} n l) = new (λ k d. n k (g k K d (λ z. o (inl (sym z))))) (lack-map label label′ K₀ f g L _ (λ i. o (inr i)) l)
 

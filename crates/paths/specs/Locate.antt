@@ -1,4 +1,4 @@
--- The key numbers of a term's items, 4096 for a key that no number has.
+-- Serves document 01, 'Paths and keys': the key numbers of a term's items, 4096 for a key that no number has.
 use Prim.Native.Nat.{ℕ, zero, suc, _+_, _-_, _*_, _/_, _%_, _≤_, _<_}
 use mathlib.Core.Path.{_≡_, refl, sym, ap, _∙_, subst}
 use mathlib.Core.Logic.{_⊎_, inl, inr, _↔_, ⊎-elim}
@@ -11,11 +11,11 @@ use lib.Dec.{eqb, ltb}
 use lib.ListN.{length, getD, length-append}
 use Rattle.laws.specs.Members.{In, NoDup}
 use Rattle.laws.specs.Choice.{pick}
-use Rattle.chains.specs.Chains.{Chains, find, lookup, find-sound}
+use Rattle.chains.specs.Chains.{Chains, find, foundFrom, find-sound}
 use Rattle.keys.specs.Keys.{Place, root, step, Key, key}
 use Rattle.paths.specs.Rep.{lab, lab-inj, At, top, kid, Den, Rep, find-den, find-none}
 use Rattle.paths.specs.Walk.{kidOf, upPlace, upNum, keyList}
-use Rattle.paths.specs.Insert.{DenK, Dens, Lack, none, has, new, Back, Ends, back-one}
+use Rattle.paths.specs.Insert.{DenK, Dens, Lack, done, has, new, Back, Ends, back-one}
 
 unfoldable pub numList : List ℕ → List ℕ → List ℕ → List ℕ → List ℕ → List ℕ
 numList link label ks [] es = []
@@ -48,19 +48,19 @@ densM-get label (_ ∷ ks) [] n d h = absurd d
 densM-get label (_ ∷ ks) (K ∷ Ks) zero d h = d .0
 densM-get label (_ ∷ ks) (K ∷ Ks) (suc n) d h = densM-get label ks Ks n (d .1) (omega arith)
 
-lookup-le : (link label : List ℕ) (w f x : ℕ) → lookup link label w f x ≤ 4096
-unfolding lookup
-lookup-le link label w zero x = omega arith
-lookup-le link label w (suc f) zero = omega arith
-lookup-le link label w (suc f) (suc k) = go (eqb (getD label (k % 4096) 0) w) (lookup-le link label w f (getD link (k % 4096) 0))
+found-le : (link label : List ℕ) (w f x : ℕ) → foundFrom link label w f x ≤ 4096
+unfolding foundFrom
+found-le link label w zero x = omega arith
+found-le link label w (suc f) zero = omega arith
+found-le link label w (suc f) (suc k) = go (eqb (getD label (k % 4096) 0) w) (found-le link label w f (getD link (k % 4096) 0))
   where
-    go : (b : Bool) → lookup link label w f (getD link (k % 4096) 0) ≤ 4096 → pick b (k % 4096) (lookup link label w f (getD link (k % 4096) 0)) ≤ 4096
+    go : (b : Bool) → foundFrom link label w f (getD link (k % 4096) 0) ≤ 4096 → pick b (k % 4096) (foundFrom link label w f (getD link (k % 4096) 0)) ≤ 4096
     go true h = omega arith
     go false h = h
 
 pub find-le : (link label : List ℕ) (w : ℕ) → find link label w ≤ 4096
 unfolding find
-find-le link label w = lookup-le link label w 4096 _
+find-le link label w = found-le link label w 4096 _
 
 at-low : (label : List ℕ) (n : ℕ) (P : Place) → At label n P → (n ≡ 32776) ⊎ (n < 32768)
 at-low label n P top = inl refl
@@ -114,7 +114,7 @@ module _ (link label : List ℕ) (mem : ℕ → ℕ → Type 0) (R : ℕ → Pla
 -- how many keys are missing
 pub lack-of : (label : List ℕ) (ks : List ℕ) (Ks : List Key) → DensM label ks Ks → Lack label Ks (missing ks)
 unfolding missing
-lack-of label [] [] d = none
+lack-of label [] [] d = done
 lack-of label [] (_ ∷ Ks) d = absurd d
 lack-of label (_ ∷ ks) [] d = absurd d
 lack-of label (k ∷ ks) (key P e ∷ Ks) d = go (d .0) (lack-of label ks Ks (d .1))

@@ -1,4 +1,4 @@
--- Tables as an opening leaves them stand for the empty store.
+-- Serves document 01, 'Store': tables as an opening leaves them stand for the empty store.
 use Prim.Native.Nat.{ℕ, zero, suc, _+_, _-_, _*_, _/_, _%_, _≤_, _<_}
 use mathlib.Core.Path.{_≡_, refl, sym, ap, _∙_}
 use mathlib.Core.Logic.{_⊎_, inl, inr, _↔_, ⊎-elim}

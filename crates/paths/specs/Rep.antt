@@ -1,4 +1,4 @@
--- What the key tables mean.
+-- Serves document 01, 'Paths and keys': what the key tables mean.
 use Prim.Native.Nat.{ℕ, zero, suc, _+_, _-_, _*_, _/_, _%_, _≤_, _<_}
 use mathlib.Core.Path.{_≡_, refl, sym, ap, _∙_, subst}
 use mathlib.Core.Logic.{_⊎_, inl, inr, _↔_, ⊎-elim}
@@ -81,7 +81,7 @@ carry R s P Q e f p q h = rw (← p, ← q) h
 unfoldable pub Full : List ℕ → (ℕ → ℕ → Type 0) → ℕ → Type 0
 Full label mem out = (k : ℕ) → k < 4096 → (getD label k 0 ≡ 0 → ⊥) → (k ≡ out → ⊥) → (s : ℕ) × mem k s
 
--- the lookup finds exactly the key of a place and an end
+-- the search finds exactly the key of a place and an end
 module _ (link label : List ℕ) (mem : ℕ → ℕ → Type 0) (R : ℕ → Place → ℕ → Type 0) (r : Rep link label mem R) (n : ℕ) (P : Place) (e : ℕ) (at : At label n P) (fits : e < 257) where
   pub find-den : find link label (lab n e) < 4096 → Den label (find link label (lab n e)) P e
   find-den h = record { num = n; at = at; low = h; is = find-sound link label (lab n e) (r .chains) h; fits = fits }
@@ -99,7 +99,7 @@ module _ (link label : List ℕ) (mem : ℕ → ℕ → Type 0) (R : ℕ → Pla
 
 -- a free key gets the label of a place and an end that no key has
 module _ (link label : List ℕ) (mem : ℕ → ℕ → Type 0) (R : ℕ → Place → ℕ → Type 0) (r : Rep link label mem R) (n : ℕ) (P : Place) (e k : ℕ) (at : At label n P) (fits : e < 257)
-    (none : 4096 ≤ find link label (lab n e)) (low : k < 4096) (isfree : getD label k 0 ≡ 0) (len : 8190 ≤ length link) (len′ : 4096 ≤ length label) where
+    (unfound : 4096 ≤ find link label (lab n e)) (low : k < 4096) (isfree : getD label k 0 ≡ 0) (len : 8190 ≤ length link) (len′ : 4096 ≤ length label) where
   abbrev pub label′ : List ℕ
   label′ = set label k (lab n e)
 

@@ -1,4 +1,4 @@
--- What the walks ask of a term, shown of the bytes of a checked term and its tree.
+-- Serves document 01, 'Paths and keys': what the walks ask of a term, shown of the bytes of a checked term and its tree.
 use Prim.Native.Nat.{ℕ, suc, _+_, _≤_, _<_}
 use mathlib.Core.Path.{_≡_, refl, sym, ap, _∙_}
 use mathlib.Core.Logic.{_⊎_, inl, inr}
@@ -8,7 +8,7 @@ use lib.ListN.{length, getD, List·getD-eq-default}
 use Rattle.keys.specs.Keys.{Tm, Args, node, nil, cons, endOf, size}
 use Rattle.terms.specs.Terms.{numbers, Signed, refusal}
 use Rattle.theory.specs.Items.{arity}
-use Rattle.definitions.specs.Trees.{count, itemsT, itemsA, Symbol, Variable, treeOf}
+use Rattle.definitions.specs.Trees.{countArgs, itemsT, itemsA, IsSymbol, Variable, treeOf}
 use Rattle.definitions.specs.Trees as Trees
 use Rattle.definitions.specs.Spelt.{end-variable, end-symbol, shaped-count, term-tree, term-tree-is, tree-shaped, tree-spells, size-items}
 use Rattle.paths.specs.Walk.{upsT, endsT, endsA, Eight, Eights}
@@ -48,7 +48,7 @@ module _ (sig : List ℕ) (s : Signed sig) where
     shapes (cons u us) w = (shaped u (w .0), shapes us (w .1))
 
   -- the end of a symbol is the symbol; a variable's, the star, has no arity either
-  pub end-of : (x : ℕ) (us : Args) → (Symbol sig x × (count us ≡ getD sig x 0)) ⊎ (Variable x × (count us ≡ 0)) → (count us ≡ arity sig (endOf x)) × (endOf x < 257)
+  pub end-of : (x : ℕ) (us : Args) → (IsSymbol sig x × (countArgs us ≡ getD sig x 0)) ⊎ (Variable x × (countArgs us ≡ 0)) → (countArgs us ≡ arity sig (endOf x)) × (endOf x < 257)
   end-of x us (inl h) =
       let e = end-symbol x (omega (arith, h .0, s .short)) in
       (h .1 ∙ ap (arity sig) (sym e), omega (arith, e, h .0, s .short))
@@ -68,12 +68,12 @@ module _ (sig : List ℕ) (s : Signed sig) where
     wfs (cons u us) w = (wf u (w .0), wfs us (w .1))
 
   mutual
-    unfolding Eight Trees.Shaped count
+    unfolding Eight Trees.Shaped countArgs
 
     eight : (u : Tm) → Trees.Shaped sig u → Eight u
     eight (node x us) w = eights us 0 (w .1) (omega (arith, shaped-count sig (s .short) x us w, s .eight x))
 
-    eights : (us : Args) (i : ℕ) → Trees.Shapes sig us → i + count us ≤ 8 → Eights i us
+    eights : (us : Args) (i : ℕ) → Trees.Shapes sig us → i + countArgs us ≤ 8 → Eights i us
     eights nil i w l = tt
     eights (cons u us) i w l = (omega arith, eight u (w .0), eights us (suc i) (w .1) (omega arith))
 

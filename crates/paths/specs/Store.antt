@@ -1,4 +1,4 @@
--- The store: what each slot holds; and that insert and delete of the tables are insert and delete of the store.
+-- Serves document 01, 'Store': what each slot holds; and that insert and delete of the tables are insert and delete of the store.
 use Prim.Native.Nat.{ℕ, zero, suc, _+_, _-_, _*_, _/_, _%_, _≤_, _<_}
 use mathlib.Core.Path.{_≡_, refl, sym, ap, _∙_, subst}
 use mathlib.Core.Logic.{_⊎_, inl, inr, _↔_, ⊎-elim}

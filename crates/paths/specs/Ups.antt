@@ -1,10 +1,10 @@
--- The ups of a term, read off its flat list of items with the ups that are still to come.
+-- Serves document 01, 'Paths and keys': the ups of a term, read off its flat list of items with the ups that are still to come.
 use Prim.Native.Nat.{ℕ, zero, suc, _+_, _*_}
 use mathlib.Core.Path.{_≡_, ap, _∙_}
 use mathlib.Core.List.{List, [], _∷_, _++_, append-assoc, append-nil}
 use native.Mathlib.Omega.{arith}
 use Rattle.keys.specs.Keys.{Tm, Args, node, nil, cons, size, sizes}
-use Rattle.definitions.specs.Trees.{count, itemsT, itemsA}
+use Rattle.definitions.specs.Trees.{countArgs, itemsT, itemsA}
 use Rattle.paths.specs.Walk.{upsT, upsA}
 
 -- the ups of arguments i to i + a - 1 of item n
@@ -19,14 +19,14 @@ upsF ar n (u ∷ ps) (x ∷ xs) = u ∷ upsF ar (suc n) (kids n 0 (ar x) ++ ps) 
 
 unfoldable mutual
   pub Shaped : (ℕ → ℕ) → Tm → Type 0
-  Shaped ar (node x us) = (count us ≡ ar x) × Shapes ar us
+  Shaped ar (node x us) = (countArgs us ≡ ar x) × Shapes ar us
 
   pub Shapes : (ℕ → ℕ) → Args → Type 0
   Shapes ar nil = Unit {0}
   Shapes ar (cons t us) = Shaped ar t × Shapes ar us
 
 mutual
-  unfolding upsF itemsT upsT size Shaped kids count
+  unfolding upsF itemsT upsT size Shaped kids countArgs
 
   pub ups-flat : (t : Tm) (ar : ℕ → ℕ) (n u : ℕ) (ps xs : List ℕ) → Shaped ar t → upsF ar n (u ∷ ps) (itemsT t ++ xs) ≡ upsT n u t ++ upsF ar (n + size t) ps xs
   ups-flat (node x us) ar n u ps xs w =
@@ -34,10 +34,10 @@ mutual
       let z : suc n + sizes us ≡ n + suc (sizes us) = omega arith in
       ap {B = List ℕ} (λ l. u ∷ l) (rw (w .0, z) at h)
 
-  pub ups-args : (us : Args) (ar : ℕ → ℕ) (m n i : ℕ) (ps xs : List ℕ) → Shapes ar us → upsF ar m (kids n i (count us) ++ ps) (itemsA us ++ xs) ≡ upsA m n i us ++ upsF ar (m + sizes us) ps xs
+  pub ups-args : (us : Args) (ar : ℕ → ℕ) (m n i : ℕ) (ps xs : List ℕ) → Shapes ar us → upsF ar m (kids n i (countArgs us) ++ ps) (itemsA us ++ xs) ≡ upsA m n i us ++ upsF ar (m + sizes us) ps xs
   ups-args nil ar m n i ps xs w = let z : m + 0 ≡ m = omega arith in rw z
   ups-args (cons t us) ar m n i ps xs w =
-      let a = ups-flat t ar m (suc (n * 8 + i)) (kids n (suc i) (count us) ++ ps) (itemsA us ++ xs) (w .0) in
+      let a = ups-flat t ar m (suc (n * 8 + i)) (kids n (suc i) (countArgs us) ++ ps) (itemsA us ++ xs) (w .0) in
       let b = ups-args us ar (m + size t) n (suc i) ps xs (w .1) in
       let z : m + size t + sizes us ≡ m + (size t + sizes us) = omega arith in
       let c = rw z at b in

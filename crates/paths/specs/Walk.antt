@@ -1,4 +1,4 @@
--- A term's keys set and cleared, one item after another.
+-- Serves document 01, 'Store': a term's keys set and cleared, one item after another.
 use Prim.Native.Nat.{ℕ, zero, suc, _+_, _-_, _*_, _/_, _%_, _≤_, _<_}
 use mathlib.Core.Path.{_≡_, refl, sym, ap, _∙_, subst}
 use mathlib.Core.Logic.{_⊎_, inl, inr, _↔_, ⊎-elim}

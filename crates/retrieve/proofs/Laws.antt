@@ -89,7 +89,7 @@ confirming-start bytes r sig q cs ws slot e n = record {
   most = n .most;
   here = n .member;
   eight = rw e refl;
-  done = λ s l. neither (has ws s) (has cs s) _ (rw e (none-has s)) (n .none s (omega arith) l);
+  done = λ s l. neither (has ws s) (has cs s) _ (rw e (none-has s)) (n .passed s (omega arith) l);
   ahead = λ s l. rw e (none-has s);
 }
 
@@ -125,7 +125,7 @@ module _ (bytes : List ℕ) (r : ℕ) (sig q cs ws : List ℕ) (slot : ℕ) (c :
       done : (s : ℕ) → s < slot′ → Dec (s < slot) → Dec (s ≡ slot) → (has ws′ s ≡ 1) ↔ ((has cs s ≡ 1) × Stands r sig (termOf bytes s) q)
       done s l (yes m) z = rw (e, other b s (λ y. omega (arith, y, m))) (c .done s m)
       done s l (no m) (yes z) = rw (z, e) (this b d)
-      done s l (no m) (no z) = neither (has ws′ s) (has cs s) _ (rw e (later b s (omega arith))) (n .none s (omega arith) l)
+      done s l (no m) (no z) = neither (has ws′ s) (has cs s) _ (rw e (later b s (omega arith))) (n .passed s (omega arith) l)
 
 pub confirming-end : (bytes : List ℕ) (r : ℕ) (sig q cs ws : List ℕ) (slot : ℕ) → Confirming bytes r sig q cs ws slot → 512 ≤ slot → Answers bytes r sig q cs ws
 confirming-end bytes r sig q cs ws slot c h s l = c .done s (omega arith)

@@ -1,4 +1,4 @@
--- A listing is complete and ascending: its slots are those of the set, each once.
+-- Document 01, 'Numbers of refusal': a listing is complete and ascending: its slots are those of the set, each once.
 use Prim.Native.Nat.{ℕ, zero, suc, _+_, _≤_, _<_}
 use mathlib.Core.Path.{_≡_, refl, sym, ap, _∙_}
 use mathlib.Core.Logic.{_⊎_, inl, inr, _↔_, ⊎-elim}

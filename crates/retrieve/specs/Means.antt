@@ -1,5 +1,6 @@
--- On tables that stand for a store a retrieval answers all that document 01 asks for: its candidates are the slots in use whose
--- term agrees with the question, and its answers are all slots in use whose term stands in the relation to it.
+-- On tables that stand for a store a retrieval answers all that document 01 asks for ('Paths and keys', 'The relations
+-- themselves'): its candidates are the slots in use whose term agrees with the question, and its answers are all slots in use whose
+-- term stands in the relation to it.
 use Prim.Native.Nat.{ℕ, _≤_, _<_}
 use mathlib.Core.Path.{_≡_}
 use mathlib.Core.Logic.{_↔_}

@@ -1,4 +1,4 @@
--- Any two answers that the contracts permit coincide, and so do the bytes afterwards.
+-- Document 01, 'What the contracts owe': any two answers that the contracts permit coincide, and so do the bytes afterwards.
 use Prim.Native.Nat.{ℕ, zero, suc, _+_, _*_, _≤_, _<_}
 use mathlib.Core.Path.{_≡_, refl, sym, ap, _∙_}
 use mathlib.Core.Logic.{_↔_}

@@ -125,7 +125,7 @@ module _ (ws : List ℕ) (from i s w z : ℕ) (l : i < 8) (h : s < 64) (e : w �
         above = λ q. omega arith;
         most = omega arith;
         member = λ q. rw g (next-member ws i s h fits m);
-        none = λ x p q. go x p q m g (decLt x (i * 64 + s));
+        passed = λ x p q. go x p q m g (decLt x (i * 64 + s));
       }
     where
       go : (x : ℕ) → from ≤ x → x < i * 64 + s + z → (getD ws i 0 / 2 ^ s ≡ 0 → ⊥) → z ≡ trailingZeros 64 (getD ws i 0 / 2 ^ s) → Dec (x < i * 64 + s) → has ws x ≡ 0

@@ -96,7 +96,7 @@ pub members-next : (ws : List ℕ) (from r : ℕ) → from ≤ 512 → Next ws f
 members-next ws from r h n =
     let a = next-above ws from r n h in
     let e : from + (r - from) ≡ r = omega (arith, a) in
-    rw e at (skip ws (r - from) from (omega (arith, a, n .most)) (λ x p q. n .none x p (omega (arith, a, q))))
+    rw e at (skip ws (r - from) from (omega (arith, a, n .most)) (λ x p q. n .passed x p (omega (arith, a, q))))
 
 pub members-here : (ws : List ℕ) (r : ℕ) → r < 512 → has ws r ≡ 1 → membersFrom ws r (512 - r) ≡ r ∷ membersFrom ws (r + 1) (512 - (r + 1))
 unfolding membersFrom

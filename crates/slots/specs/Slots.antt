@@ -49,7 +49,7 @@ pub record Next (ws : List ℕ) (from r : ℕ) : Type 0 where
   pub above : r < 512 → from ≤ r
   pub most : r ≤ 512
   pub member : r < 512 → has ws r ≡ 1
-  pub none : (x : ℕ) → from ≤ x → x < r → has ws x ≡ 0
+  pub passed : (x : ℕ) → from ≤ x → x < r → has ws x ≡ 0
 
 pub next-above : (ws : List ℕ) (from r : ℕ) → Next ws from r → from ≤ 512 → from ≤ r
 next-above ws from r n h = go (decLt r 512)
@@ -65,8 +65,8 @@ next-one ws from a b h k = go (decLt a b) (decLt b a)
     below : (r q : ℕ) → Next ws from r → Next ws from q → r < q → ⊥
     below r q m n l =
         let one = m .member (omega (arith, n .most)) in
-        let none = n .none r (m .above (omega (arith, n .most))) l in
-        omega (arith, one, none)
+        let out = n .passed r (m .above (omega (arith, n .most))) l in
+        omega (arith, one, out)
 
     go : Dec (a < b) → Dec (b < a) → a ≡ b
     go (yes l) d = absurd (below a b h k l)

@@ -50,7 +50,7 @@ impl SlotSet {
         ensures { λ r. ⌜ r .words ≡ replicate 8 0xffff_ffff_ffff_ffff ⌝ }
     {
         SlotSet {
-            words: [0xffff_ffff_ffff_ffffu64; 8],
+            words: [0xffff_ffff_ffff_ffffu64; Self::WORDS],
         }
     }
 
@@ -96,9 +96,9 @@ impl SlotSet {
     pub fn and(self, other: SlotSet) -> SlotSet
         ensures { λ r. ⌜ r .words ≡ both (self .words) (other .words) ⌝ }
     {
-        let mut out = [0u64; 8];
+        let mut out = [0u64; Self::WORDS];
         let mut i: usize = 0;
-        while i < 8 {
+        while i < Self::WORDS {
             out[i] = self.words[i] & other.words[i];
             i += 1;
         }
@@ -129,7 +129,7 @@ impl SlotSet {
     {
         let mut n: usize = 0;
         let mut i: usize = 0;
-        while i < 8 {
+        while i < Self::WORDS {
             n += ones_of(self.words[i]);
             i += 1;
         }
@@ -160,7 +160,7 @@ impl SlotSet {
     {
         let mut i = from / 64;
         let mut skipped = from % 64;
-        while i < 8 {
+        while i < Self::WORDS {
             let w = from_bit(self.words[i], skipped);
             if w != 0 {
                 return i * 64 + skipped + zeros_of(w);
@@ -168,7 +168,7 @@ impl SlotSet {
             skipped = 0;
             i += 1;
         }
-        512
+        Self::CAPACITY
     }
 
     // The least slot of the set, or 512.
@@ -185,7 +185,7 @@ impl SlotSet {
     {
         let mut at: usize = 0;
         let mut slot = self.next(0);
-        while slot < 512 {
+        while slot < Self::CAPACITY {
             out[at] = low(slot / 256);
             out[at + 1] = low(slot % 256);
             at += 2;

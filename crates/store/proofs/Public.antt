@@ -55,13 +55,13 @@ least-is (suc k) ws from r e n = go (ℕ-discrete (has ws from) 1) (least-is k w
     go (yes h) ih = rw (eq-eqb (has ws from) 1 h) (same (decLt from r))
       where
         same : Dec (from < r) → r ≡ from
-        same (yes l) = absurd (let z = n .none from (omega arith) l in omega (arith, z))
+        same (yes l) = absurd (let z = n .passed from (omega arith) l in omega (arith, z))
         same (no l) = let a = next-above ws from r n (omega arith) in omega arith
     go (no h) ih = rw (ne-eqb (has ws from) 1 h) (ih (record {
       above = λ l. over (ℕ-discrete r from);
       most = n .most;
       member = n .member;
-      none = λ x p q. n .none x (omega arith) q;
+      passed = λ x p q. n .passed x (omega arith) q;
     }))
       where
         over : Dec (r ≡ from) → suc from ≤ r

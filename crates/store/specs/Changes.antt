@@ -83,21 +83,21 @@ digit ws x q = omega arith
 
 least-next : (k : ℕ) (ws : List ℕ) (from : ℕ) → from + k ≡ 512 → Next ws from (leastFrom ws from k)
 unfolding leastFrom
-least-next zero ws from e = record { above = λ h. omega arith; most = omega arith; member = λ h. absurd (omega arith); none = λ x a b. absurd (omega arith) }
+least-next zero ws from e = record { above = λ h. omega arith; most = omega arith; member = λ h. absurd (omega arith); passed = λ x a b. absurd (omega arith) }
 least-next (suc k) ws from e = go (ℕ-discrete (has ws from) 1) (least-next k ws (suc from) (omega arith))
   where
     go : Dec (has ws from ≡ 1) → Next ws (suc from) (leastFrom ws (suc from) k) → Next ws from (pick (eqb (has ws from) 1) from (leastFrom ws (suc from) k))
-    go (yes h) n = rw (eq-eqb (has ws from) 1 h) (record { above = λ l. omega arith; most = omega arith; member = λ l. h; none = λ x a b. absurd (omega arith) })
+    go (yes h) n = rw (eq-eqb (has ws from) 1 h) (record { above = λ l. omega arith; most = omega arith; member = λ l. h; passed = λ x a b. absurd (omega arith) })
     go (no h) n = rw (ne-eqb (has ws from) 1 h) (record {
       above = λ l. (let a = n .above l in omega arith);
       most = n .most;
       member = n .member;
-      none = λ x a b. first x a b (ℕ-discrete x from);
+      passed = λ x a b. first x a b (ℕ-discrete x from);
     })
       where
         first : (x : ℕ) → from ≤ x → x < leastFrom ws (suc from) k → Dec (x ≡ from) → has ws x ≡ 0
         first x a b (yes z) = rw z (digit ws from h)
-        first x a b (no z) = n .none x (omega arith) b
+        first x a b (no z) = n .passed x (omega arith) b
 
 empty-slot : (o : Option (List ℕ)) → filled o ≡ 0 → o ≡ none
 empty-slot none h = refl
@@ -109,7 +109,7 @@ smallest T sig st h = record {
   most = n .most;
   free = λ l. empty-slot (st r) (let a = n .member l in let b = has-others (T .used) r (h .words) l in let c = h .slots r l in omega (arith, a, b, c));
   before = λ x l e. let m = n .most in let q : x < 512 = omega arith in
-      let a = n .none x (omega arith) l in let b = has-others (T .used) x (h .words) q in let c = h .slots x q ∙ ap filled e in omega (arith, a, b, c);
+      let a = n .passed x (omega arith) l in let b = has-others (T .used) x (h .words) q in let c = h .slots x q ∙ ap filled e in omega (arith, a, b, c);
 }
   where
     r : ℕ

@@ -1,4 +1,4 @@
--- What the writes of the store leave of the signature, the terms and the slots in use.
+-- Serves document 01, 'Store': what the writes of the store leave of the signature, the terms and the slots in use.
 use Prim.Native.Nat.{ℕ, zero, suc, _+_, _-_, _*_, _/_, _%_, _^_, _≤_, _<_, min}
 use mathlib.Core.Path.{_≡_, refl, sym, _∙_}
 use mathlib.Core.List.{List, [], _∷_}

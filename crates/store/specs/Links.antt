@@ -1,4 +1,4 @@
--- The table of links that an opening leaves, place by place.
+-- Serves document 01, 'Store': the table of links that an opening leaves, place by place.
 use Prim.Native.Nat.{ℕ, zero, suc, _+_, _-_, _≤_, _<_}
 use mathlib.Core.Path.{_≡_, refl, sym, ap, _∙_}
 use mathlib.Core.List.{List, _∷_, _++_}
@@ -76,7 +76,7 @@ module _ (a b : ℕ) (l : List ℕ) where
 pub freed-is : (l m : List ℕ) → 8190 ≤ length l → Freed l m → m ≡ freed l
 unfolding freed
 freed-is l m h f = ext-getD 0 m (whole 4095 4094 l) (f .same ∙ sym (length-whole 4095 4094 l h))
-    (λ i g. spot 4095 4094 l i (getD m i 0) (λ p. let z = f .next i p in omega (arith, z)) (λ p q. f .none i p q) (λ p. ap (λ (j : ℕ). getD m j 0) p ∙ f .first) (λ p. f .rest i p))
+    (λ i g. spot 4095 4094 l i (getD m i 0) (λ p. let z = f .next i p in omega (arith, z)) (λ p q. f .ended i p q) (λ p. ap (λ (j : ℕ). getD m j 0) p ∙ f .first) (λ p. f .rest i p))
 
 pub freed-length : (l : List ℕ) → 8190 ≤ length l → length (freed l) ≡ length l
 unfolding freed

@@ -7,7 +7,7 @@ use lib.Seq.{take-all, drop-nil, drop-drop}
 use native.Mathlib.Nat.{add-assoc, zero-add, suc-add, add-suc}
 use native.Mathlib.Numerals.{one-add, add-one}
 use native.Mathlib.Omega.{arith}
-use Rattle.terms.specs.Terms.{numbers, span, declared, itemsGood, aritiesGood, sigRefusal, Signed, refusal, head, argRefusal}
+use Rattle.terms.specs.Terms.{numbers, span, declared, itemsGood, aritiesGood, sigRefusal, Signed, refusal, firstItem, argRefusal}
 use Rattle.laws.specs.Choice.{pick}
 use Rattle.laws.proofs.Lists.{tail-part}
 use mathlib.Core.Bool.{Bool, true, false}
@@ -138,23 +138,23 @@ good sig t h =
     record { long = omega arith; short = ltb-false _ _ (a .0); symbols = d .0; shape = eqb-true _ _ (e .0) }
 
 -- the arguments before argument i, and argument i, lie within the term
-pub args-within : (sig t : List ℕ) (k : ℕ) → Good sig t → k ≤ getD sig (head t) 0 → 2 + span sig (drop 2 t) k ≤ length t
+pub args-within : (sig t : List ℕ) (k : ℕ) → Good sig t → k ≤ getD sig (firstItem t) 0 → 2 + span sig (drop 2 t) k ≤ length t
 args-within sig t k g h =
-    let A = getD sig (head t) 0 in
+    let A = getD sig (firstItem t) 0 in
     let s = span-head sig t 0 (g .long) in
     let e : A + 0 ≡ k + (A - k) = omega arith in
     let f = span-add sig (drop 2 t) k (A - k) in
     let s2 = rw e at s in
     omega (arith, g .shape, s2, f)
 
-pub arg-none : (sig t : List ℕ) (i : ℕ) → argRefusal sig t i ≡ 0 → Good sig t × (1 ≤ i) × (i ≤ getD sig (head t) 0)
+pub arg-none : (sig t : List ℕ) (i : ℕ) → argRefusal sig t i ≡ 0 → Good sig t × (1 ≤ i) × (i ≤ getD sig (firstItem t) 0)
 unfolding argRefusal
 arg-none sig t i h = go (refusal sig t) refl h
   where
-    go : (r : ℕ) → refusal sig t ≡ r → pick (eqb r 0) (pick (eqb i 0) 10 (pick (ltb (getD sig (head t) 0) i) 10 0)) r ≡ 0 → Good sig t × (1 ≤ i) × (i ≤ getD sig (head t) 0)
+    go : (r : ℕ) → refusal sig t ≡ r → pick (eqb r 0) (pick (eqb i 0) 10 (pick (ltb (getD sig (firstItem t) 0) i) 10 0)) r ≡ 0 → Good sig t × (1 ≤ i) × (i ≤ getD sig (firstItem t) 0)
     go zero e g =
         let a = past (eqb i 0) 9 _ g in
-        let b = past (ltb (getD sig (head t) 0) i) 9 _ (a .1) in
+        let b = past (ltb (getD sig (firstItem t) 0) i) 9 _ (a .1) in
         let x : i ≡ 0 → ⊥ = eqb-false _ _ (a .0) in
         (good sig t e, omega arith, ltb-false _ _ (b .0))
     go (suc r) e g =

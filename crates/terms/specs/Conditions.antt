@@ -6,7 +6,7 @@ use mathlib.Core.Logic.{_⊎_}
 use mathlib.Core.List.{List, [], _∷_, _++_}
 use lib.ListN.{length, getD}
 use Rattle.laws.specs.Members.{In}
-use Rattle.terms.specs.Terms.{numbers, head}
+use Rattle.terms.specs.Terms.{numbers, firstItem}
 
 -- 'a value below n is that symbol; 0x8000 + v with v from 0 to 31 is variable v; nothing else is an item'
 abbrev pub Item : List ℕ → ℕ → Type 0
@@ -14,7 +14,7 @@ Item sig x = (x < length sig) ⊎ ((32768 ≤ x) × (x < 32800))
 
 -- k terms in a row: the first is one item and the terms of its arguments; a variable has none
 pub data Terms (sig : List ℕ) : ℕ → List ℕ → Type 0 where
-  none : Terms sig 0 []
+  done : Terms sig 0 []
   more : {k x : ℕ} {l m : List ℕ} → Terms sig (getD sig x 0) l → Terms sig k m → Terms sig (suc k) (x ∷ (l ++ m))
 
 abbrev pub Term : List ℕ → List ℕ → Type 0
@@ -60,7 +60,7 @@ pub data SignatureApplies (sig : List ℕ) : ℕ → Type 0 where
 -- ARG: the argument asked is 0 or above the arity, which is 0 for a variable
 pub data ArgumentApplies (sig t : List ℕ) (i : ℕ) : ℕ → Type 0 where
   term : {n : ℕ} → Applies sig t n → ArgumentApplies sig t i n
-  argument : (i ≡ 0) ⊎ (getD sig (head t) 0 < i) → ArgumentApplies sig t i 10
+  argument : (i ≡ 0) ⊎ (getD sig (firstItem t) 0 < i) → ArgumentApplies sig t i 10
 
 -- 'where several apply, the lowest number is given'; 0 is none
 pub record Lowest (P : ℕ → Type 0) (n : ℕ) : Type 0 where

@@ -1,5 +1,5 @@
--- The numbers that Terms.antt computes are the lowest whose condition holds (Conditions.antt); on the way: what the walk counts
--- is k terms in a row.
+-- Document 01, 'Numbers of refusal' ('the lowest number is given'): the numbers that Terms.antt computes are the lowest whose
+-- condition holds (Conditions.antt); on the way: what the walk counts is k terms in a row.
 use Prim.Native.Nat.{ℕ, zero, suc, _+_, _-_, _*_, _≤_, _<_, _%_}
 use mathlib.Core.Path.{_≡_, refl, sym, ap, _∙_}
 use mathlib.Core.Logic.{_⊎_, inl, inr, ⊎-elim}
@@ -11,9 +11,9 @@ use native.Mathlib.Decide.{decLt, ℕ-discrete}
 use borrow.Author.Tests.{le-leb, lt-leb, eq-eqb, ne-eqb, le-ltb, lt-ltb}
 use lib.ListN.{length, getD, length-append, List·getD-eq-default}
 use Rattle.laws.specs.Members.{In}
-use Rattle.terms.specs.Terms.{numbers, span, declared, itemsGood, aritiesGood, sigRefusal, refusal, head, argRefusal}
+use Rattle.terms.specs.Terms.{numbers, span, declared, itemsGood, aritiesGood, sigRefusal, refusal, firstItem, argRefusal}
 use Rattle.terms.specs.Conditions.{Item, Terms, Term, Size, Odd, Symbol, Ends, GoesOn, Applies, SignatureApplies, ArgumentApplies, Lowest}
-use Rattle.terms.specs.Conditions.Terms.{none, more}
+use Rattle.terms.specs.Conditions.Terms.{done, more}
 use Rattle.terms.specs.Conditions.Applies.{size, odd, symbol, shape}
 use Rattle.terms.specs.Conditions.SignatureApplies.{empty, long, arity}
 use Rattle.terms.specs.Conditions.ArgumentApplies.{term, argument}
@@ -34,7 +34,7 @@ span-reach sig (x ∷ y ∷ r) (suc k) = let e = span-reach sig r (getD sig (x *
 -- k terms in a row take up just their items
 pub terms-reach : (sig : List ℕ) {k : ℕ} {l : List ℕ} → Terms sig k l → (r : List ℕ) (j : ℕ) → reach sig (l ++ r) (k + j) ≡ length l + reach sig r j
 unfolding reach
-terms-reach sig none r j = rw zero-add (omega arith)
+terms-reach sig done r j = rw zero-add (omega arith)
 terms-reach sig (more {k = k} {x = x} {l = l} {m = m} a b) r j =
     let f = terms-reach sig a (m ++ r) (k + j) in
     let g = terms-reach sig b r j in
@@ -42,7 +42,7 @@ terms-reach sig (more {k = k} {x = x} {l = l} {m = m} a b) r j =
 
 terms-split : (sig : List ℕ) (a b : ℕ) (l : List ℕ) → Terms sig (a + b) l
     → (p : List ℕ) × (q : List ℕ) × (l ≡ p ++ q) × Terms sig a p × Terms sig b q
-terms-split sig zero b l h = ([], l, refl, none, (let e : 0 + b ≡ b = omega arith in rw e at h))
+terms-split sig zero b l h = ([], l, refl, done, (let e : 0 + b ≡ b = omega arith in rw e at h))
 terms-split sig (suc a) b l h = go l (let e : suc a + b ≡ suc (a + b) = omega arith in rw e at h) (terms-split sig a b)
   where
     go : (l : List ℕ) → Terms sig (suc (a + b)) l → ((l : List ℕ) → Terms sig (a + b) l → (p : List ℕ) × (q : List ℕ) × (l ≡ p ++ q) × Terms sig a p × Terms sig b q)
@@ -53,11 +53,11 @@ terms-split sig (suc a) b l h = go l (let e : suc a + b ≡ suc (a + b) = omega 
 
 -- k items that bring no arguments
 leaves : (sig : List ℕ) (k : ℕ) → (m : List ℕ) × (length m ≡ k) × Terms sig k m
-leaves sig zero = ([], refl, none)
+leaves sig zero = ([], refl, done)
 leaves sig (suc k) =
     let r = leaves sig k in
     let z : getD sig (length sig) 0 ≡ 0 = List·getD-eq-default sig 0 (omega arith) in
-    (length sig ∷ r .0, ap suc (r .1), more {x = length sig} {l = []} (rw z none) (r .2))
+    (length sig ∷ r .0, ap suc (r .1), more {x = length sig} {l = []} (rw z done) (r .2))
 
 join : (sig : List ℕ) (x k : ℕ) (l : List ℕ) → Terms sig (getD sig x 0 + k) l → Terms sig (suc k) (x ∷ l)
 join sig x k l h = let r = terms-split sig (getD sig x 0) k l h in rw (r .2) (more (r .3) (r .4))
@@ -74,8 +74,8 @@ reach-beyond sig (x ∷ l) (suc k) h =
 -- where it stops within, k terms stand there, and the rest follows
 reach-within : (sig l : List ℕ) (k : ℕ) → reach sig l k ≤ length l → (p : List ℕ) × (m : List ℕ) × (length p ≡ reach sig l k) × (l ≡ p ++ m) × Terms sig k p
 unfolding reach
-reach-within sig [] k h = let e : k ≡ 0 = omega (arith, h) in ([], [], (let f = e in omega (arith, f)), refl, rw e none)
-reach-within sig (x ∷ l) zero h = ([], x ∷ l, refl, refl, none)
+reach-within sig [] k h = let e : k ≡ 0 = omega (arith, h) in ([], [], (let f = e in omega (arith, f)), refl, rw e done)
+reach-within sig (x ∷ l) zero h = ([], x ∷ l, refl, refl, done)
 reach-within sig (x ∷ l) (suc k) h =
     let r = reach-within sig l (getD sig x 0 + k) (omega (arith, h)) in
     (x ∷ r .0, r .1, ap suc (r .2), ap (λ (z : List ℕ). x ∷ z) (r .3), join sig x k (r .0) (r .4))
@@ -263,18 +263,18 @@ module _ (sig t : List ℕ) where
     unfolding argRefusal
     arg-term n = rw (ne-eqb (refusal sig t) 0 n)
 
-    arg-ten : refusal sig t ≡ 0 → (i ≡ 0) ⊎ (getD sig (head t) 0 < i) → argRefusal sig t i ≡ 10
+    arg-ten : refusal sig t ≡ 0 → (i ≡ 0) ⊎ (getD sig (firstItem t) 0 < i) → argRefusal sig t i ≡ 10
     unfolding argRefusal
     arg-ten e (inl z) = rw (eq-eqb (refusal sig t) 0 e, eq-eqb i 0 z)
-    arg-ten e (inr l) = let n : i ≡ 0 → ⊥ = λ z. omega (arith, l, z) in rw (eq-eqb (refusal sig t) 0 e, ne-eqb i 0 n, lt-ltb (getD sig (head t) 0) i l)
+    arg-ten e (inr l) = let n : i ≡ 0 → ⊥ = λ z. omega (arith, l, z) in rw (eq-eqb (refusal sig t) 0 e, ne-eqb i 0 n, lt-ltb (getD sig (firstItem t) 0) i l)
 
-    arg-none : refusal sig t ≡ 0 → (i ≡ 0 → ⊥) → i ≤ getD sig (head t) 0 → argRefusal sig t i ≡ 0
+    arg-none : refusal sig t ≡ 0 → (i ≡ 0 → ⊥) → i ≤ getD sig (firstItem t) 0 → argRefusal sig t i ≡ 0
     unfolding argRefusal
-    arg-none e n l = rw (eq-eqb (refusal sig t) 0 e, ne-eqb i 0 n, le-ltb (getD sig (head t) 0) i l)
+    arg-none e n l = rw (eq-eqb (refusal sig t) 0 e, ne-eqb i 0 n, le-ltb (getD sig (firstItem t) 0) i l)
 
     -- the same of an argument's
     pub argument-lowest : Lowest (ArgumentApplies sig t i) (argRefusal sig t i)
-    argument-lowest = go (ℕ-discrete (refusal sig t) 0) (ℕ-discrete i 0) (decLt (getD sig (head t) 0) i)
+    argument-lowest = go (ℕ-discrete (refusal sig t) 0) (ℕ-discrete i 0) (decLt (getD sig (firstItem t) 0) i)
       where
         given : (refusal sig t ≡ 0 → ⊥) → Applies sig t (refusal sig t)
         given n = ⊎-elim (λ e. absurd (n e)) (λ p. p) (refusal-lowest .given)
@@ -283,10 +283,10 @@ module _ (sig t : List ℕ) where
         ten e m (term p) = let l = refusal-lowest .least m p in absurd (omega (arith, l .0, e))
         ten e _ (argument h) = omega arith
 
-        reached : refusal sig t ≡ 0 → (i ≡ 0) ⊎ (getD sig (head t) 0 < i) → Lowest (ArgumentApplies sig t i) (argRefusal sig t i)
+        reached : refusal sig t ≡ 0 → (i ≡ 0) ⊎ (getD sig (firstItem t) 0 < i) → Lowest (ArgumentApplies sig t i) (argRefusal sig t i)
         reached e h = rw (arg-ten e h) (record { given = inr (argument h); least = λ m p. (omega arith, ten e m p) })
 
-        go : Dec (refusal sig t ≡ 0) → Dec (i ≡ 0) → Dec (getD sig (head t) 0 < i) → Lowest (ArgumentApplies sig t i) (argRefusal sig t i)
+        go : Dec (refusal sig t ≡ 0) → Dec (i ≡ 0) → Dec (getD sig (firstItem t) 0 < i) → Lowest (ArgumentApplies sig t i) (argRefusal sig t i)
         go (no n) d f = rw (arg-term n) (record { given = inr (term (given n)); least = lower })
           where
             lower : (m : ℕ) → ArgumentApplies sig t i m → (0 < refusal sig t) × (refusal sig t ≤ m)

@@ -1,4 +1,4 @@
--- The numbers of refusal: none is 0, and each names one refusal.
+-- Document 01, 'Numbers of refusal': none is 0, and each names one refusal.
 use Prim.Native.Nat.{ℕ, zero, suc}
 use mathlib.Core.Path.{_≡_, refl, sym, ap, _∙_}
 use native.Mathlib.Omega.{arith}

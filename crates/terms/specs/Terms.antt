@@ -53,8 +53,8 @@ refusal sig t =
     (pick (eqb (span sig t 1) (length t)) 0 8)
     7)))
 
-abbrev pub head : List ℕ → ℕ
-head t = getD t 0 0 * 256 + getD t 1 0
+abbrev pub firstItem : List ℕ → ℕ
+firstItem t = getD t 0 0 * 256 + getD t 1 0
 
 -- what follows the first k arguments of a term
 abbrev pub afterArgs : List ℕ → List ℕ → ℕ → List ℕ
@@ -64,7 +64,7 @@ unfoldable pub argRefusal : List ℕ → List ℕ → ℕ → ℕ
 argRefusal sig t i =
     pick (eqb (refusal sig t) 0)
     (pick (eqb i 0) 10
-    (pick (ltb (getD sig (head t) 0) i) 10
+    (pick (ltb (getD sig (firstItem t) 0) i) 10
     0))
     (refusal sig t)
 

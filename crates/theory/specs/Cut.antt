@@ -1,4 +1,4 @@
--- The first k terms of a list, and the rest.
+-- Serves document 01, 'Term bytes': the first k terms of a list, and the rest.
 use mathlib.Core.Path.{_≡_, refl}
 use mathlib.Core.List.{List, [], _∷_, _++_}
 use Prim.Native.Nat.{ℕ, zero, suc, _+_, _<_}

@@ -1,4 +1,6 @@
--- A most general unifier brings in nothing: a variable of neither term stays, and values are made of the terms' own items.
+-- Serves document 01, 'The solver's record': a most general unifier brings in nothing. A variable of neither term stands in no other
+-- value (`absent`), and keeps itself as its value where the smallest variables are taken (`stays`, `changed-occurs`); a change of
+-- items that keeps terms terms and leaves variables and both terms alone leaves every value alone (`kept`).
 use mathlib.Core.Path.{_≡_, refl, sym, ap, _∙_}
 use mathlib.Core.Logic.{_⊎_, inl, inr, _≢_}
 use mathlib.Core.List.{List, [], _∷_, append-nil, map, map-append}

@@ -1,4 +1,5 @@
--- Matching as a function: the bindings that turn one list of items into another, or a proof that none do.
+-- Serves document 01, 'The relations themselves': matching as a function: the bindings that turn one list of items into another, or
+-- a proof that none do.
 use mathlib.Core.Path.{_≡_, refl, sym, ap, _∙_, subst}
 use mathlib.Core.Logic.{_⊎_, inl, inr}
 use mathlib.Core.Bool.{Bool, true, false}

@@ -1,4 +1,5 @@
--- Nodes: the places of a list of items where a term begins.
+-- Serves document 01, 'The relations themselves' and 'The solver's record': nodes, the places of a list of items where a term
+-- begins.
 use mathlib.Core.Path.{_≡_, refl, ap}
 use mathlib.Core.Logic.{_≢_}
 use mathlib.Core.List.{List, [], _∷_, _++_}

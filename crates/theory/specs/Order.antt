@@ -1,4 +1,5 @@
--- Following the bindings comes to an end: a list of the bound variables in which each value mentions only later ones.
+-- Serves document 01, 'The solver's record' ('with all bindings carried through'): following the bindings comes to an end: a list
+-- of the bound variables in which each value mentions only later ones.
 use mathlib.Core.Path.{_≡_, refl}
 use mathlib.Core.Logic.{_⊎_, inl, inr}
 use mathlib.Core.List.{List, [], _∷_, _++_}

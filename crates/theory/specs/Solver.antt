@@ -1,4 +1,5 @@
--- Robinson's method ends: two terms have a most general unifier that takes the smallest variables, or none at all.
+-- Document 01, 'The solver's record': Robinson's method ends: two terms have a most general unifier that takes the smallest
+-- variables, or none at all.
 use mathlib.Core.Path.{_≡_, refl, sym, ap, _∙_, subst}
 use mathlib.Core.Logic.{_⊎_, inl, inr, _≢_}
 use mathlib.Core.Option.{Option}

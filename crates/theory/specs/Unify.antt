@@ -1,4 +1,4 @@
--- Unification on flat terms: bindings, the substitution that they make, and the steps.
+-- Serves document 01, 'The solver's record': unification on flat terms: bindings, the substitution that they make, and the steps.
 use mathlib.Core.Path.{_≡_, refl, sym, ap, _∙_}
 use mathlib.Core.Logic.{_⊎_, inl, inr, _≢_}
 use mathlib.Core.List.{List, [], _∷_, append-nil}

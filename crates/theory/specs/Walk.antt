@@ -1,4 +1,4 @@
--- A walk over the items of a term, by the number of terms still open.
+-- Serves document 01, 'Term bytes': a walk over the items of a term, by the number of terms still open.
 use mathlib.Core.Path.{_≡_, refl, sym, ap, _∙_}
 use mathlib.Core.Logic.{_≢_}
 use mathlib.Core.List.{List, [], _∷_}

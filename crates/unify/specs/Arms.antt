@@ -1,4 +1,5 @@
--- The two arms of the loop that change its state: a variable bound, and two nodes of one symbol merged.
+-- Serves document 01, 'The solver's record': the two arms of the loop that change its state: a variable bound, and two nodes of one
+-- symbol merged.
 use mathlib.Core.Path.{_≡_}
 use mathlib.Core.Bool.{Bool, true, false}
 use mathlib.Core.Logic.{_≢_}

@@ -1,4 +1,4 @@
--- Two terms in bytes, as one pool of items.
+-- Serves document 01, 'The solver's record': two terms in bytes, as one pool of items.
 use mathlib.Core.Path.{_≡_, refl, sym, ap, _∙_}
 use mathlib.Core.Logic.{_≢_}
 use mathlib.Core.List.{List, [], _∷_, _++_, append-nil}

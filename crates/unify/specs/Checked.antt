@@ -1,4 +1,5 @@
--- What callers show to ask: that the checks of crate `terms` took the signature, the stored term and the question.
+-- Serves document 01, 'The solver's record': what callers show to ask: that the checks of crate `terms` took the signature, the
+-- stored term and the question.
 use mathlib.Core.Path.{_≡_}
 use mathlib.Core.List.{List}
 use Prim.Native.Nat.{ℕ}

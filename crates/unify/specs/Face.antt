@@ -1,4 +1,4 @@
--- Two nodes that no binding leads on from, face to face.
+-- Serves document 01, 'The solver's record': two nodes that no binding leads on from, face to face.
 use mathlib.Core.Path.{_≡_, sym, _∙_}
 use mathlib.Core.Logic.{_⊎_, _≢_}
 use mathlib.Core.List.{List}

@@ -1,4 +1,4 @@
--- The record: a field for each variable with a value, by ascending number.
+-- Document 01, 'The solver's record': a field for each variable with a value, by ascending number.
 use mathlib.Core.Path.{_≡_, refl, sym, ap, _∙_}
 use mathlib.Core.Logic.{_≢_}
 use mathlib.Core.List.{List, [], _∷_, _++_, append-nil, append-assoc}

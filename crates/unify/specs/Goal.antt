@@ -1,4 +1,5 @@
--- The unifier's loop: what is still to be made the same, and the classes of nodes taken for the same.
+-- Serves document 01, 'The solver's record': the unifier's loop: what is still to be made the same, and the classes of nodes taken
+-- for the same.
 use mathlib.Core.Path.{_≡_, refl, sym, ap, _∙_}
 use mathlib.Core.Logic.{_⊎_, inl, inr}
 use mathlib.Core.List.{List, [], _∷_}

@@ -1,4 +1,4 @@
--- Sets of variables in one word.
+-- Serves document 01, 'The solver's record': sets of variables in one word, for the occurs check.
 use Prim.Native.Nat.{ℕ, suc, _+_, _-_, _*_, _/_, _%_, _^_, _<_, max}
 use mathlib.Core.Path.{_≡_, refl, ap, _∙_}
 use mathlib.Core.Logic.{_⊎_, inl, inr, _≢_, _↔_}

@@ -1,4 +1,4 @@
--- Pairs of nodes on a stack, and the pairs of the arguments of two nodes.
+-- Serves document 01, 'The solver's record': pairs of nodes on a stack, and the pairs of the arguments of two nodes.
 use mathlib.Core.Path.{_≡_, refl, sym, ap, _∙_}
 use mathlib.Core.Logic.{_≢_}
 use mathlib.Core.List.{List, [], _++_}

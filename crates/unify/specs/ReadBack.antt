@@ -1,4 +1,5 @@
--- What a written answer's bytes say, read back: whatever the promise of `record` permits has the properties of document 01.
+-- What a written answer's bytes say, read back: whatever the promise of `record` permits has the properties that document 01 asks
+-- ('The solver's record').
 use Prim.Native.Nat.{ℕ, _≤_}
 use native.Mathlib.Omega.{arith}
 use mathlib.Core.Path.{_≡_, sym, ap, _∙_}

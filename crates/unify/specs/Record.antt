@@ -1,4 +1,4 @@
--- Values in bytes.
+-- Document 01, 'The solver's record': values in bytes.
 use mathlib.Core.Path.{_≡_, refl, sym, ap, _∙_}
 use mathlib.Core.Logic.{_⊎_, inl, inr, _≢_}
 use mathlib.Core.List.{List, [], _∷_, _++_, append-nil, append-assoc}
@@ -136,15 +136,15 @@ module _ (sig pool tab : List ℕ) where
 
 -- where the item c leads, bindings followed d deep: 0, or one more than the node
 pub record Goes (tab : List ℕ) (c d r : ℕ) : Type 0 where
-  pub none : r ≡ 0 → (sig pool : List ℕ) → itemBytes sig pool tab d c ≡ c / 256 ∷ c % 256 ∷ []
-  pub some : r ≢ 0 → (d ≢ 0) × ((sig pool : List ℕ) → itemBytes sig pool tab d c ≡ termBytes sig pool tab (d - 1) (r - 1))
+  pub plain : r ≡ 0 → (sig pool : List ℕ) → itemBytes sig pool tab d c ≡ c / 256 ∷ c % 256 ∷ []
+  pub bound : r ≢ 0 → (d ≢ 0) × ((sig pool : List ℕ) → itemBytes sig pool tab d c ≡ termBytes sig pool tab (d - 1) (r - 1))
   pub from : getD tab (c - 32768) 0 ≡ r ⊎ (r ≡ 0)
 
 pub goes-plain : (tab : List ℕ) (c d : ℕ) → (32768 ≤ c → (d ≡ 0) ⊎ (getD tab (c - 32768) 0 ≡ 0)) → Goes tab c d 0
-goes-plain tab c d h = record { none = λ z sig pool. item-plain sig pool tab d c h; some = λ n. absurd (n refl); from = inr refl }
+goes-plain tab c d h = record { plain = λ z sig pool. item-plain sig pool tab d c h; bound = λ n. absurd (n refl); from = inr refl }
 
 pub goes-bound : (tab : List ℕ) (c d r : ℕ) → 32768 ≤ c → d ≢ 0 → r ≢ 0 → getD tab (c - 32768) 0 ≡ r → Goes tab c d r
-goes-bound tab c d r v n m e = record { none = λ z. absurd (m z); some = λ k. (n, λ sig pool. item-bound sig pool tab d c r v n m e); from = inl e }
+goes-bound tab c d r v n m e = record { plain = λ z. absurd (m z); bound = λ k. (n, λ sig pool. item-bound sig pool tab d c r v n m e); from = inl e }
 
 -- two bytes at the start
 pub front-two : (a b : ℕ) (out : List ℕ) → 2 ≤ length out → lib.ListN.set (lib.ListN.set out 0 a) 1 b ≡ front (a ∷ b ∷ []) out

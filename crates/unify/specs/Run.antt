@@ -1,4 +1,4 @@
--- The unifier's state as the code holds it, each step, and the ends.
+-- Serves document 01, 'The solver's record': the unifier's state as the code holds it, each step, and the ends.
 use mathlib.Core.Path.{_≡_, refl, sym, ap, _∙_}
 use mathlib.Core.Logic.{_⊎_, inl, inr, _≢_, _↔_}
 use mathlib.Core.List.{List, [], _∷_, append-nil, map}

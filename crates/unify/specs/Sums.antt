@@ -1,4 +1,4 @@
--- The set of the variables of a term, summed in a walk.
+-- Serves document 01, 'The solver's record': the set of the variables of a term, summed in a walk.
 use mathlib.Core.Path.{_≡_, sym, ap, _∙_}
 use mathlib.Core.Logic.{_≢_}
 use mathlib.Core.List.{List, _∷_}

@@ -1,4 +1,5 @@
--- The values of the variables, from the table of bindings alone: each followed to a depth; and their sizes.
+-- Serves document 01, 'The solver's record': the values of the variables, from the table of bindings alone: each followed to a
+-- depth; and their sizes.
 use mathlib.Core.Path.{_≡_, refl, sym, ap, _∙_, subst}
 use mathlib.Core.Logic.{inl, inr, _≢_}
 use mathlib.Core.List.{List, [], _∷_}

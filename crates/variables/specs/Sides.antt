@@ -1,16 +1,18 @@
 -- Document 01, 'Term bytes': the variable that a written number stands for.
-use mathlib.Core.Path.{_≡_, sym, ap, _∙_}
+use mathlib.Core.Path.{_≡_, ap}
 use native.Mathlib.Omega.{arith}
 use Prim.Native.Nat.{ℕ, _+_, _<_}
 use Rattle.variables.specs.declared.StoredVariable.{StoredVariable}
 use Rattle.variables.specs.declared.QuestionVariable.{QuestionVariable}
 use Rattle.variables.specs.declared.Side.{Side}
 use Rattle.variables.specs.declared.Side.the-variants.{Stored, Question}
+use Rattle.variables.specs.declared.Bank.the-variants as Bank
+use Rattle.variables.specs.Banks.{bankOf}
 
 -- one of 32 on its own side, moved by that side's bank
 abbrev pub Stands : ℕ → Side → Type 0
-Stands w (Stored v) = (v .0 < 32) × (v .0 ≡ w)
-Stands w (Question v) = (v .0 < 32) × (32 + v .0 ≡ w)
+Stands w (Stored v) = (v .0 < 32) × (bankOf Bank.Stored + v .0 ≡ w)
+Stands w (Question v) = (v .0 < 32) × (bankOf Bank.Question + v .0 ≡ w)
 
 stored-one : (u v : StoredVariable) → u .0 ≡ v .0 → u ≡ v
 stored-one u v e = ap (λ z. record { 0 = z }) e
@@ -20,7 +22,7 @@ question-one u v e = ap (λ z. record { 0 = z }) e
 
 -- a written number stands for one variable
 pub stands-one : (w : ℕ) (a b : Side) → Stands w a → Stands w b → a ≡ b
-stands-one w (Stored u) (Stored v) h k = ap (λ z. Stored z) (stored-one u v (h .1 ∙ sym (k .1)))
+stands-one w (Stored u) (Stored v) h k = ap (λ z. Stored z) (stored-one u v (omega (arith, h .1, k .1)))
 stands-one w (Stored u) (Question v) h k = absurd (omega (arith, h .0, h .1, k .1))
 stands-one w (Question u) (Stored v) h k = absurd (omega (arith, k .0, k .1, h .1))
 stands-one w (Question u) (Question v) h k = ap (λ z. Question z) (question-one u v (omega (arith, h .1, k .1)))

@@ -1,4 +1,4 @@
--- What the loops over a term's items do to the tables.
+-- Serves document 01, 'Store': what the loops over a term's items do to the tables.
 use Prim.Native.Nat.{ℕ, zero, suc, _+_, _-_, _*_, _/_, _%_, _≤_, _<_}
 use mathlib.Core.Path.{_≡_, refl, sym, ap, _∙_}
 use mathlib.Core.List.{List, [], _∷_, _++_}

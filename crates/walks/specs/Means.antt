@@ -1,4 +1,4 @@
--- The loops are the walks of the index: what they make of tables that stand for a store.
+-- Serves document 01, 'Store': the loops are the walks of the index: what they make of tables that stand for a store.
 use Prim.Native.Nat.{ℕ, zero, suc, _+_, _-_, _*_, _/_, _%_, _≤_, _<_}
 use mathlib.Core.Path.{_≡_, refl, sym, ap, _∙_, subst}
 use mathlib.Core.List.{List, [], _∷_, _++_, append-assoc, append-nil}

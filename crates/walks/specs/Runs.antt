@@ -1,4 +1,4 @@
--- Runs: an opening, and then inserts and deletes.
+-- Document 01, 'Store' ('tables made by an opening and later calls'): runs of an opening and then inserts and deletes.
 use Prim.Native.Nat.{ℕ, _≤_, _<_}
 use mathlib.Core.Path.{_≡_}
 use mathlib.Core.Bool.{true}

@@ -3,13 +3,13 @@ use Prim.Native.Nat.{ℕ, zero, suc, _≤_, _-_, _+_, _<_, _*_, _%_, _/_}
 use mathlib.Core.Path.{_≡_, refl, sym, ap, _∙_}
 use native.Mathlib.Omega.{arith}
 use lib.ListN.{length, getD, set, length-set}
-use Rattle.chains.specs.Chains.{lookup, home, find, home-low}
-use Rattle.chains.proofs.Laws.{lookup-hit, lookup-miss, lookup-none, lookup-out, find-start}
+use Rattle.chains.specs.Chains.{foundFrom, home, find, home-low}
+use Rattle.chains.proofs.Laws.{found-hit, found-miss, found-none, found-out, find-start}
 use Rattle.chains.proofs.find.Statement.{statement}
 use Rattle.chains.proofs.find.Tie as tie
 
 abbrev Inv-loop : tie.InvT-loop
-Inv-loop link label w at k₀ fuel₀ k fuel = (fuel ≤ 4096) × (find link label w ≡ lookup link label w fuel k)
+Inv-loop link label w at k₀ fuel₀ k fuel = (fuel ≤ 4096) × (find link label w ≡ foundFrom link label w fuel k)
 
 abbrev μ-loop : tie.MeasureT-loop
 μ-loop link label w at k₀ fuel₀ k fuel = fuel
@@ -31,7 +31,7 @@ loop-holds c = (omega arith, find-start _ _ _ _ _ (c .before .before .home .ensu
 
 returns : tie.Need-returns Inv-loop μ-loop
 returns c = let l = c .before .before .loop in
-    sym (l .inv .1 ∙ lookup-none _ _ _ _ _ (c .if1 .taken))
+    sym (l .inv .1 ∙ found-none _ _ _ _ _ (c .if1 .taken))
 
 sub-j : tie.Need-sub-j Inv-loop μ-loop
 sub-j c = omega arith
@@ -44,7 +44,7 @@ shared-slice-read-if2 c = omega arith
 
 returns-2 : tie.Need-returns-2 Inv-loop μ-loop
 returns-2 c = let l = c .before .before .before .before .loop in
-    sym (l .inv .1 ∙ lookup-hit _ _ _ _ _ (c .before .before .before .loop-test .taken) (c .before .before .if1 .left) (c .if2 .taken))
+    sym (l .inv .1 ∙ found-hit _ _ _ _ _ (c .before .before .before .loop-test .taken) (c .before .before .if1 .left) (c .if2 .taken))
 
 mul-wide16-2 : tie.Need-mul-wide16-2 Inv-loop μ-loop
 mul-wide16-2 c = omega arith
@@ -63,11 +63,11 @@ loop-less c = omega arith
 
 loop-again : tie.Need-loop-again Inv-loop μ-loop
 loop-again c = let l = c .before .before .before .before .before .before .loop in
-    (omega arith, rw (c .wide162 .ensures .0) (l .inv .1 ∙ lookup-miss _ _ _ _ _ (c .before .before .before .before .before .loop-test .taken) (c .before .before .before .before .if1 .left) (c .before .before .if2 .left)))
+    (omega arith, rw (c .wide162 .ensures .0) (l .inv .1 ∙ found-miss _ _ _ _ _ (c .before .before .before .before .before .loop-test .taken) (c .before .before .before .before .if1 .left) (c .before .before .if2 .left)))
 
 returns-3 : tie.Need-returns-3 Inv-loop μ-loop
 returns-3 c = let l = c .before .loop in
-    sym (l .inv .1 ∙ lookup-out _ _ _ _ _ (omega arith))
+    sym (l .inv .1 ∙ found-out _ _ _ _ _ (omega arith))
 
 pub find-spec : {M : Type 1} → statement M
 find-spec =

@@ -61,7 +61,7 @@ returns c = let a = (c .before .before .before .before) .args in
     let l = (c .before) .loop in
     record {
       next = walk-end (a .sig .now) (codes 0 (a .t .now)) (a .j) (l .opened) (l .i) ((c .loop-test) .left) (l .inv .0);
-      some = omega (arith, l .inv .1, (c .loop-test) .left);
+      ahead = omega (arith, l .inv .1, (c .loop-test) .left);
       low = omega (arith, low (c .before));
     }
 

@@ -24,7 +24,7 @@ step-requires : tie.Need-step-requires Inv-loop μ-loop
 step-requires c κs = ((c .before .before .before .before .before .before) .pre .0, (c .before .before .before .before .before .before) .pre .1, (c .before .loop-test) .taken, (c .before .before) .loop .inv .1)
 
 returns : tie.Need-returns Inv-loop μ-loop
-returns c = decided-no ((c .before .step) .ensures .none ((c .if1) .taken))
+returns c = decided-no ((c .before .step) .ensures .refuted ((c .if1) .taken))
 
 add-i : tie.Need-add-i Inv-loop μ-loop
 add-i c = omega arith

@@ -43,7 +43,7 @@ agrees-requires c κs = let a = (c .before .before .before .before .before .befo
       g .many,
       (c .before .before .before .before .before .before .before) .pre .1 .short,
       omega (arith, (c .before .before .before .before .before .before .before) .pre .0 .named (a .i) ((c .before .before .before .before .before .before .before) .pre .2), (c .before .before .before .number-at) .ensures .0),
-      (c .before .end-of) .ensures .some,
+      (c .before .end-of) .ensures .ahead,
       (c .before .end-of) .ensures .low,
       λ q z. (rw z at (g .table ((c .before .before .before .number-at) .result - 32768))) .0,
     )

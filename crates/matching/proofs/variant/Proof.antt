@@ -38,7 +38,7 @@ step-requires c κs = ((c .before .before .before .before .before .before .befor
 
 returns-2 : tie.Need-returns-2 Inv-loop μ-loop
 returns-2 c = let a = (c .before .before .before .before .before .before .before .before .before .before) .args in
-    decided-no (no-variant (a .sig .now) (a .pattern .now) (a .target .now) ((c .before .step) .ensures .none ((c .if2) .taken)))
+    decided-no (no-variant (a .sig .now) (a .pattern .now) (a .target .now) ((c .before .step) .ensures .refuted ((c .if2) .taken)))
 
 add-i : tie.Need-add-i Inv-loop μ-loop
 add-i c = omega arith

@@ -420,7 +420,7 @@ put-item-sub-put-2 : (t : ℕ) → put-item-lts.Need-sub-put-2 (
 put-item-sub-put-2 t c = let e = (c .before .before .bound-to) .result in
     let g = (c .before .before .bound-to) .ensures in
     let n : e ≢ 0 = (c .before .if1) .taken in
-    let so = g .some n in
+    let so = g .bound n in
     omega (arith, so .0)
 
 put-item-put-requires : (t : ℕ) → put-item-lts.Need-put-requires (
@@ -441,7 +441,7 @@ put-item-put-requires t c κs = let s = (c .before .before .before .before .befo
     let e = (c .before .before .bound-to) .result in
     let g = (c .before .before .bound-to) .ensures in
     let n : e ≢ 0 = (c .before .if1) .taken in
-    let so = g .some n in
+    let so = g .bound n in
     let eq = so .1 sig pool in
     (omega (arith, s .pre .0, so .0), (G, s .pre .1 .1, goes-inside tab pool x d e g (s .pre .1 .1) n, rw (← eq) (s .pre .1 .3)))
 
@@ -469,7 +469,7 @@ put-item-returns t c = let s = (c .before .before .before .before .before .befor
     let e = (c .before .before .before .before .before .bound-to) .result in
     let g = (c .before .before .before .before .before .bound-to) .ensures in
     let n : e ≢ 0 = (c .before .before .before .before .if1) .taken in
-    let so = g .some n in
+    let so = g .bound n in
     let eq = so .1 sig pool in
     rw eq ((c .before .before .put) .ensures)
 
@@ -499,7 +499,7 @@ put-item-slice-write-out t c = let s = (c .before .before .before .before .befor
     let e = (c .before .before .bound-to) .result in
     let g = (c .before .before .bound-to) .ensures in
     let z : e ≡ 0 = (c .before .if1) .left in
-    let eq = g .none z sig pool in
+    let eq = g .plain z sig pool in
     let two : 2 ≤ length out₀ = omega (arith, s .pre .1 .3, ap length eq) in
     omega (arith, two)
 
@@ -528,7 +528,7 @@ put-item-slice-write-out-2 t c = let s = (c .before .before .before .before .bef
     let e = (c .before .before .before .bound-to) .result in
     let g = (c .before .before .before .bound-to) .ensures in
     let z : e ≡ 0 = (c .before .before .if1) .left in
-    let eq = g .none z sig pool in
+    let eq = g .plain z sig pool in
     let two : 2 ≤ length out₀ = omega (arith, s .pre .1 .3, ap length eq) in
     simp length-set (omega (arith, two))
 
@@ -558,7 +558,7 @@ put-item-returns-2 t c = let s = (c .before .before .before .before .before .bef
     let e = (c .before .before .before .bound-to) .result in
     let g = (c .before .before .before .bound-to) .ensures in
     let z : e ≡ 0 = (c .before .before .if1) .left in
-    let eq = g .none z sig pool in
+    let eq = g .plain z sig pool in
     let two : 2 ≤ length out₀ = omega (arith, s .pre .1 .3, ap length eq) in
     rw eq (refl, rw ((c .before .low) .ensures, c .low2 .ensures) (front-two (x / 256) (x % 256) out₀ two))
 

@@ -58,7 +58,7 @@ loop-again c =
 returns-2 : tie.Need-returns-2 Inv-loop μ-loop
 returns-2 c =
     let l = (c .before .loop) in
-    record { above = λ q. absurd (omega arith); most = omega arith; member = λ q. absurd (omega arith); none = λ x a b. l .inv .2 x a (omega arith) }
+    record { above = λ q. absurd (omega arith); most = omega arith; member = λ q. absurd (omega arith); passed = λ x a b. l .inv .2 x a (omega arith) }
 
 pub next-spec : {M : Type 1} → statement M
 next-spec =
