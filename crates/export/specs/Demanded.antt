@@ -10,6 +10,8 @@ use mathlib.Core.List.{List, []}
 use lib.ListN.{length}
 use lib.Seq.{sets}
 use Rattle.terms.specs.Terms.{refusal}
+use Rattle.terms.specs.Conditions.{Lowest}
+use Rattle.definitions.specs.Applies.{AppliesNumber}
 use Rattle.theory.specs.Relations.{Unifiable}
 use Rattle.layout.specs.Tables.{Tables}
 use Rattle.store.specs.Calls.{Outcome, Listing, openOutcome, insertOutcome, deleteOutcome, keyListing, opening, inserting, deleting, asking}
@@ -17,7 +19,7 @@ use Rattle.store.specs.declared.Deleted.{Deleted}
 use Rattle.definitions.specs.Store.{Store, Call, openWith, insert, delete, withKey, retrieve, solve, empty, after, answered as answer, written}
 use Rattle.meaning.specs.Outcomes.{opening-told, inserting-told, Deletion, deleting-told, asking-told}
 use Rattle.meaning.specs.Runs.{Reply, told, replyOf, Called, opens, inserts, deletes, asks, retrieves, solves, Run, opened, called}
-use Rattle.meaning.specs.Demands.{demand-1, demand-1-quiet, Retrieval, demand-2, demand-3-none, Solution, demand-3}
+use Rattle.meaning.specs.Demands.{demand-1, demand-1-lowest, demand-1-quiet, Retrieval, demand-2, demand-3-none, Solution, demand-3}
 use Rattle.export.specs.Calls.{answered, Opens, Inserts, Deletes, Lists, Retrieves, Solves}
 use Rattle.export.specs.Replies.{reply, reply-told, answered-refused, open-reply, insert-reply, delete-done, delete-refused, key-reply, retrieve-reply, solve-reply, retrieve-kept, solve-kept}
 
@@ -103,6 +105,27 @@ module _ (T : Tables) (st : Store) (k : Run T st) (out₀ out : List ℕ) where
   pub solves-answers : (s : ℕ) (q : List ℕ) (f₀ f w₀ w r : ℕ) → Solves T s q out₀ out f₀ f w₀ w r
       → (reply r f w ≡ replyOf (answer st (solve s q (length out₀)))) × (out ≡ sets out₀ 0 (written (answer st (solve s q (length out₀)))))
   solves-answers s q f₀ f w₀ w r h = demand-1 T T st (solve s q (length out₀)) out₀ out (reply r f w) k (solves-called T out₀ out s q f₀ f w₀ w r h)
+
+-- the number that it is refused with is the lowest that applies, and it is 0 exactly where none does (definitions/specs/Applies.antt),
+module _ (T T' : Tables) (st : Store) (k : Run T st) where
+  pub opens-lowest : (sig : List ℕ) (r : ℕ) → Opens T T' sig r → Lowest (AppliesNumber st (openWith sig)) r
+  opens-lowest sig r h = demand-1-lowest T T' st (openWith sig) [] [] (told r 0 0) k (opens-called T T' sig [] r h)
+
+  pub inserts-lowest : (t : List ℕ) (slot₀ slot r : ℕ) → Inserts T T' t slot₀ slot r → Lowest (AppliesNumber st (insert t)) r
+  inserts-lowest t slot₀ slot r h = demand-1-lowest T T' st (insert t) [] [] (reply r slot 0) k (inserts-called T T' t [] slot₀ slot r h)
+
+  pub deletes-lowest : (s r : ℕ) → Deletes T T' s r → Lowest (AppliesNumber st (delete s)) r
+  deletes-lowest s r h = demand-1-lowest T T' st (delete s) [] [] (reply r s 0) k (deletes-called T T' s r [] h)
+
+module _ (T : Tables) (st : Store) (k : Run T st) (out₀ out : List ℕ) where
+  pub lists-lowest : (key : List ℕ) (count₀ count r : ℕ) → Lists T key out₀ out count₀ count r → Lowest (AppliesNumber st (withKey key (length out₀))) r
+  lists-lowest key count₀ count r h = demand-1-lowest T T st _ out₀ out (reply r count 0) k (lists-called T out₀ out key count₀ count r h)
+
+  pub retrieves-lowest : (relation : ℕ) (q : List ℕ) (c₀ c a₀ a r : ℕ) → Retrieves T relation q out₀ out c₀ c a₀ a r → Lowest (AppliesNumber st (retrieve relation q (length out₀))) r
+  retrieves-lowest relation q c₀ c a₀ a r h = demand-1-lowest T T st _ out₀ out (reply r c a) k (retrieves-called T out₀ out relation q c₀ c a₀ a r h)
+
+  pub solves-lowest : (s : ℕ) (q : List ℕ) (f₀ f w₀ w r : ℕ) → Solves T s q out₀ out f₀ f w₀ w r → Lowest (AppliesNumber st (solve s q (length out₀))) r
+  solves-lowest s q f₀ f w₀ w r h = demand-1-lowest T T st _ out₀ out (reply r f w) k (solves-called T out₀ out s q f₀ f w₀ w r h)
 
 -- and a refused call changes no table, no byte of the buffer and no number behind `&mut`, on all tables
 module _ (T T' : Tables) where
