@@ -1,8 +1,8 @@
 use Prim.Native.Nat.{ℕ, zero, suc, _+_, _-_, _*_, _≤_, _<_}
 use mathlib.Core.Path.{_≡_, refl, sym, ap, _∙_}
 use mathlib.Core.List.{List, [], _∷_, _++_, append-assoc, append-nil}
-use lib.ListN.{length, getD, set, take, drop, drop-of-length-le}
-use lib.Seq.{drop-cons, drop-set-lt, getD-set-same, take-suc-set}
+use lib.ListN.{length, getD, set, take, drop, replicate, drop-of-length-le}
+use lib.Seq.{drop-cons, drop-drop, drop-set-lt, getD-set-same, take-suc-set}
 use native.Mathlib.Numerals.{add-one, sub-one}
 use native.Mathlib.Omega.{arith}
 use Rattle.paths.specs.Ups.{kids, upsF}
@@ -49,14 +49,13 @@ pub ups-done : (ar : ℕ → ℕ) (out st items : List ℕ) (sp i : ℕ) → len
 unfolding upsF
 ups-done ar out st items sp i h = rw (drop-of-length-le items h, append-nil)
 
-pub ups-start : (ar : ℕ → ℕ) (st items : List ℕ) → length st ≡ 257 → upsF ar 0 (0 ∷ []) items ≡ upsF ar 0 (drop 256 (set st 256 0)) items
-ups-start ar st items e = rw (drop-cons (set st 256 0) 256 0 (omega (arith, q)), getD-set-same st 256 0 0 (omega arith), drop-of-length-le (set st 256 0) (le))
-  where
-    q : length (set st 256 0) ≡ length st
-    q = lib.ListN.length-set st 256 0
+-- the stack at the start: the root, which hangs nowhere
+pub ups-start : (ar : ℕ → ℕ) (items : List ℕ) → upsF ar 0 (0 ∷ []) items ≡ upsF ar 0 (drop 256 (replicate 257 0)) items
+ups-start ar items = refl
 
-    le : length (set st 256 0) ≤ 257
-    le = omega (arith, q)
+-- what is not written yet is as it was
+pub kept-turn : (out out₀ : List ℕ) (i v : ℕ) → drop i out ≡ drop i out₀ → drop (i + 1) (set out i v) ≡ drop (i + 1) out₀
+kept-turn out out₀ i v e = drop-set-lt (i + 1) out i v (omega arith) ∙ sym (drop-drop 1 i out) ∙ ap (drop 1) e ∙ drop-drop 1 i out₀
 
 -- each of the list is at most b
 abbrev pub Below : ℕ → List ℕ → Type 0
@@ -85,12 +84,5 @@ below-turn i sp a stack next h l p e =
     let q = rw (drop-cons stack sp 0 h) at p in
     rw (e, add-one sp) (below-append (8 * (i + 1)) (kids i 0 a) (drop (suc sp) stack) (below-kids i 0 a (omega arith)) (below-more (8 * i) (8 * (i + 1)) (drop (suc sp) stack) (omega arith) (q .1)))
 
-pub start-below : (stack : List ℕ) → length stack ≡ 257 → Below (8 * 0) (drop 256 (set stack 256 0))
-start-below stack e =
-    rw (drop-cons (set stack 256 0) 256 0 (omega (arith, q)), getD-set-same stack 256 0 0 (omega arith), drop-of-length-le (set stack 256 0) (le)) (omega arith, tt)
-  where
-    q : length (set stack 256 0) ≡ length stack
-    q = lib.ListN.length-set stack 256 0
-
-    le : length (set stack 256 0) ≤ 257
-    le = omega (arith, q)
+pub start-below : Below (8 * 0) (drop 256 (replicate 257 0))
+start-below = (omega arith, tt)

@@ -63,12 +63,12 @@ fn push(stack: &mut [u16], top: usize, n: usize, a: usize) -> usize
 }
 
 // The ups of the items, at the start of `out`; how many items the term has. The stack holds what is still to come.
-pub fn ups(sig: &[u8], items: &[u16], out: &mut [u8], stack: &mut [u16]) -> usize
-    requires { ⌜ (length (now stack) ≡ 257) × (length (now items) ≤ 32) × (length (now items) ≤ length (now out)) × ((x : ℕ) → getD (now sig) x 0 ≤ 8) ⌝ }
-    ensures { λ r. ⌜ (r ≤ length (now (items .entry))) × (take r (now (out .exit)) ≡ upsF (λ x. getD (now (sig .entry)) x 0) 0 (0 ∷ []) (now (items .entry))) ⌝ }
+pub fn ups(sig: &[u8], items: &[u16], out: &mut [u8]) -> usize
+    requires { ⌜ (length (now items) ≤ 32) × (length (now items) ≤ length (now out)) × ((x : ℕ) → getD (now sig) x 0 ≤ 8) ⌝ }
+    ensures { λ r. ⌜ (r ≤ length (now (items .entry))) × (take r (now (out .exit)) ≡ upsF (λ x. getD (now (sig .entry)) x 0) 0 (0 ∷ []) (now (items .entry))) × (drop r (now (out .exit)) ≡ drop r (now (out .entry))) ⌝ }
 {
+    let mut stack = [0u16; 257];
     let mut sp: usize = 256;
-    stack[256] = 0;
     let mut i: usize = 0;
     while i < items.len() {
         if sp == 257 {
@@ -76,7 +76,7 @@ pub fn ups(sig: &[u8], items: &[u16], out: &mut [u8], stack: &mut [u16]) -> usiz
         }
         out[i] = low(wide16(stack[sp]));
         let a = arity(sig, wide16(items[i]));
-        sp = push(stack, sp + 1, i, a);
+        sp = push(&mut stack, sp + 1, i, a);
         i += 1;
     }
     i

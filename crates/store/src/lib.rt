@@ -102,10 +102,9 @@ fn outline_of(sig: &[u8], t: &[u8]) -> Outline
     let mut items = [0u16; 32];
     let mut ups = [0u8; 32];
     let mut ends = [0u16; 32];
-    let mut stack = [0u16; 257];
     let n = outline::decode(t, &mut items);
     outline::ends(&items[..n], &mut ends);
-    let m = outline::ups(sig, &items[..n], &mut ups, &mut stack);
+    let m = outline::ups(sig, &items[..n], &mut ups);
     Outline {
         items: m,
         ups: ups,

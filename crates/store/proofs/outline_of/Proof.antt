@@ -36,16 +36,13 @@ slice-aggregate-ups c = let d = (c .before .before .before .before .before .befo
 slice-aggregate-ups-2 : tie.Need-slice-aggregate-ups-2
 slice-aggregate-ups-2 c = search needs
 
-slice-aggregate-ups-3 : tie.Need-slice-aggregate-ups-3
-slice-aggregate-ups-3 c = search needs
-
 ups-requires : tie.Need-ups-requires
-ups-requires c κs = let d = (c .before .before .before .before .before .before .before .before .decode) in
-    let e = length-take-le (d .result) (d .last .1 .0) (omega (arith, d .ensures .0, d .kept .1 .0, (c .before .before .before .before .before .before .before .before .before .before .before .before) .pre .1)) in
-    (refl, omega (arith, e, d .ensures .0, (c .before .before .before .before .before .before .before .before .before .before .before .before) .pre .1), omega (arith, e, d .ensures .0, (c .before .before .before .before .before .before .before .before .before .before .before .before) .pre .1), (c .before .before .before .before .before .before .before .before .before .before .before .before) .pre .0 .eight)
+ups-requires c κs = let d = (c .before .before .before .before .before .before .before .decode) in
+    let e = length-take-le (d .result) (d .last .1 .0) (omega (arith, d .ensures .0, d .kept .1 .0, (c .before .before .before .before .before .before .before .before .before .before .before) .pre .1)) in
+    (omega (arith, e, d .ensures .0, (c .before .before .before .before .before .before .before .before .before .before .before) .pre .1), omega (arith, e, d .ensures .0, (c .before .before .before .before .before .before .before .before .before .before .before) .pre .1), (c .before .before .before .before .before .before .before .before .before .before .before) .pre .0 .eight)
 
 returns : tie.Need-returns
-returns c = outlined _ _ _ _ _ _ _ _ _ ((c .before .before .before .before .before .before .before .before .before .before .before .before .before .before .before) .pre .1) refl refl ((c .before .before .ups2) .kept .1 .1 .0) ((c .before .before .before .before .before .before .before .before .before .before .before .decode) .ensures .0) ((c .before .before .before .before .before .before .before .before .before .before .before .decode) .ensures .1) ((c .before .before .before .before .before .before .before .ends2) .ensures) ((c .before .before .ups2) .ensures .0) ((c .before .before .ups2) .ensures .1)
+returns c = outlined _ _ _ _ _ _ _ _ _ ((c .before .before .before .before .before .before .before .before .before .before .before .before .before) .pre .1) refl refl ((c .before .ups2) .kept .1 .1 .0) ((c .before .before .before .before .before .before .before .before .before .decode) .ensures .0) ((c .before .before .before .before .before .before .before .before .before .decode) .ensures .1) ((c .before .before .before .before .before .ends2) .ensures) ((c .before .ups2) .ensures .0) ((c .before .ups2) .ensures .1)
 
 pub outline-of-spec : {M : Type 1} → statement M
 outline-of-spec =
@@ -60,6 +57,5 @@ outline-of-spec =
     array-share-prefix-items-2
     slice-aggregate-ups
     slice-aggregate-ups-2
-    slice-aggregate-ups-3
     ups-requires
     returns)
