@@ -4,6 +4,7 @@ pub mod Changes
 pub mod Kept
 pub mod Links
 pub mod Means
+pub mod One
 pub mod Opening
 pub mod Question
 pub mod Same
