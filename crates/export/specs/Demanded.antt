@@ -5,21 +5,22 @@
 use Prim.Native.Nat.{ℕ}
 use mathlib.Core.Path.{_≡_, refl, sym, ap, _∙_}
 use mathlib.Core.Logic.{inl, inr, _≢_, _↔_}
+use mathlib.Core.Bool.{true, false}
 use mathlib.Core.Option.{some}
 use mathlib.Core.List.{List, []}
 use lib.ListN.{length}
 use lib.Seq.{sets}
-use Rattle.terms.specs.Terms.{refusal}
+use Rattle.terms.specs.Terms.{sigRefusal, refusal}
 use Rattle.terms.specs.Conditions.{Lowest}
 use Rattle.definitions.specs.Applies.{AppliesNumber}
 use Rattle.theory.specs.Relations.{Unifiable}
-use Rattle.layout.specs.Tables.{Tables}
+use Rattle.layout.specs.Tables.{Tables, ample}
 use Rattle.store.specs.Calls.{Outcome, Listing, openOutcome, insertOutcome, deleteOutcome, keyListing, opening, inserting, deleting, asking}
 use Rattle.store.specs.declared.Deleted.{Deleted}
 use Rattle.definitions.specs.Store.{Store, Call, openWith, insert, delete, withKey, retrieve, solve, empty, after, answered as answer, written}
 use Rattle.meaning.specs.Outcomes.{opening-told, inserting-told, Deletion, deleting-told, asking-told}
 use Rattle.meaning.specs.Runs.{Reply, told, replyOf, Called, opens, inserts, deletes, asks, retrieves, solves, Run, opened, called}
-use Rattle.meaning.specs.Demands.{demand-1, demand-1-lowest, demand-1-quiet, Retrieval, demand-2, demand-3-none, Solution, demand-3}
+use Rattle.meaning.specs.Demands.{demand-1, demand-1-lowest, demand-1-quiet, demand-1-table, demand-1-open, Retrieval, demand-2, demand-3-none, Solution, demand-3}
 use Rattle.export.specs.Calls.{answered, Opens, Inserts, Deletes, Lists, Retrieves, Solves}
 use Rattle.export.specs.Replies.{reply, reply-told, answered-refused, open-reply, insert-reply, delete-done, delete-refused, key-reply, retrieve-reply, solve-reply, retrieve-kept, solve-kept}
 
@@ -81,6 +82,31 @@ module _ (T T' : Tables) where
 
     pub deletes-runs : (s r : ℕ) → Deletes T T' s r → Run T' (after st (delete s))
     deletes-runs s r h = called T T' st (delete s) [] [] (reply r s 0) k (deletes-called T T' s r [] h)
+
+-- REFUSAL 1 is given exactly where a table is short, whatever the tables hold; and an opening on tables that are not keeps its full
+-- promise on all memory: it is refused exactly where its signature is, and else it begins a run (opens-begins).
+module _ (T T' : Tables) where
+  pub opens-table : (sig : List ℕ) (r : ℕ) → Opens T T' sig r → (r ≡ 1) ↔ (ample T ≡ false)
+  opens-table sig r h = demand-1-table T T' (openWith sig) [] [] (told r 0 0) (opens-called T T' sig [] r h)
+
+  pub inserts-table : (t : List ℕ) (slot₀ slot r : ℕ) → Inserts T T' t slot₀ slot r → (r ≡ 1) ↔ (ample T ≡ false)
+  inserts-table t slot₀ slot r h = demand-1-table T T' (insert t) [] [] (reply r slot 0) (inserts-called T T' t [] slot₀ slot r h)
+
+  pub deletes-table : (s r : ℕ) → Deletes T T' s r → (r ≡ 1) ↔ (ample T ≡ false)
+  deletes-table s r h = demand-1-table T T' (delete s) [] [] (reply r s 0) (deletes-called T T' s r [] h)
+
+  pub opens-number : (sig : List ℕ) (r : ℕ) → Opens T T' sig r → ample T ≡ true → r ≡ sigRefusal sig
+  opens-number sig r h a = demand-1-open T T' sig [] [] (told r 0 0) (opens-called T T' sig [] r h) a
+
+module _ (T : Tables) (out₀ out : List ℕ) where
+  pub lists-table : (key : List ℕ) (count₀ count r : ℕ) → Lists T key out₀ out count₀ count r → (r ≡ 1) ↔ (ample T ≡ false)
+  lists-table key count₀ count r h = demand-1-table T T _ out₀ out (reply r count 0) (lists-called T out₀ out key count₀ count r h)
+
+  pub retrieves-table : (relation : ℕ) (q : List ℕ) (c₀ c a₀ a r : ℕ) → Retrieves T relation q out₀ out c₀ c a₀ a r → (r ≡ 1) ↔ (ample T ≡ false)
+  retrieves-table relation q c₀ c a₀ a r h = demand-1-table T T _ out₀ out (reply r c a) (retrieves-called T out₀ out relation q c₀ c a₀ a r h)
+
+  pub solves-table : (s : ℕ) (q : List ℕ) (f₀ f w₀ w r : ℕ) → Solves T s q out₀ out f₀ f w₀ w r → (r ≡ 1) ↔ (ample T ≡ false)
+  solves-table s q f₀ f w₀ w r h = demand-1-table T T _ out₀ out (reply r f w) (solves-called T out₀ out s q f₀ f w₀ w r h)
 
 -- DEMAND 1. On the tables of a run each call answers the numbers of the store's answer, and the buffer has its bytes in front,
 module _ (T T' : Tables) (st : Store) (k : Run T st) where

@@ -4,3 +4,4 @@ pub mod Answered
 pub mod Calls
 pub mod Replies
 pub mod Demanded
+pub mod One
