@@ -5,7 +5,7 @@ use native.Mathlib.Omega.{arith}
 use mathlib.Core.Path.{_≡_, refl, sym, ap, _∙_, subst}
 use mathlib.Core.List.{List, [], _∷_, _++_}
 use lib.ListN.{length, getD, take, drop, take-append-drop, length-take, length-drop}
-use lib.Seq.{drop-drop}
+use lib.Seq.{drop-drop, take-append-seam, drop-append-seam}
 use Rattle.keys.specs.Keys.{Tm, Args, node, nil, cons}
 use Rattle.terms.specs.Terms.{numbers, span, Signed, firstItem, argRefusal, argBytes, argStart}
 use Rattle.terms.proofs.Laws.{arg-none, length-numbers}
@@ -75,3 +75,10 @@ module _ (sig t : List ℕ) (i : ℕ) (s : Signed sig) (h : argRefusal sig t i �
         left = root-taken t (span sig D k) (n .0 .long) ∙ rw (r .0, p .before);
         right = q .after ∙ ap itemsA (o .0) ∙ ap (λ (j : ℕ). itemsA (others j us)) v;
       }
+
+-- so the bytes from the start that is answered, as many as are answered, are the argument's
+pub placed-part : (sig t : List ℕ) (i x : ℕ) (us : Args) → Placed sig t i x us → take (length (argBytes sig t i)) (drop (argStart sig t i) t) ≡ argBytes sig t i
+placed-part sig t i x us p =
+    let a = argBytes sig t i in
+    let d : drop (argStart sig t i) t ≡ a ++ p .after = ap (λ (n : ℕ). drop n t) (sym (p .start)) ∙ ap (drop (length (p .before))) (p .bytes) ∙ drop-append-seam (p .before) (a ++ p .after) in
+    ap (take (length a)) d ∙ take-append-seam a (p .after)

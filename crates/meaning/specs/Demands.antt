@@ -1,5 +1,5 @@
--- THE THREE DEMANDS (document 01, 'What the contracts owe'), over every run of calls: an opening, from any memory, and then any
--- calls with any arguments, refused ones too.
+-- THE THREE DEMANDS that document 01 names ('What the contracts owe'), in the words of README.md, 'What it promises', over every run
+-- of calls: an opening, from any memory, and then any calls with any arguments, refused ones too.
 --
 -- How to read it. T and S are the eight lent tables whole, before and after a call; out₀ and out the answer buffer before and after;
 -- st a store; c a call; r its reply: the number of the refusal or 0, and up to two numbers more (retrieve: candidates, answers; solve:

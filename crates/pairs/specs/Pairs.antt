@@ -1,4 +1,4 @@
--- Document 01, 'The relations themselves' (unifiable) and 'Numbers of refusal' (2, 5 to 8): what is answered of one stored term and
+-- Serves document 01, 'The relations themselves' (unifiable) and 'Numbers of refusal' (2, 5 to 8): what is answered of one stored term and
 -- one question.
 use Prim.Native.Nat.{ℕ, min}
 use mathlib.Core.Path.{_≡_, refl, sym, ap, _∙_}

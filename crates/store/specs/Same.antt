@@ -1,5 +1,5 @@
--- Document 01, 'What the contracts owe': two installations that stand for the same store answer the same, whatever else their
--- tables hold.
+-- Serves document 01, 'Store', for what document 02 asks of two installations: where they stand for the same store they answer the
+-- same, whatever else their tables hold.
 use Prim.Native.Nat.{ℕ, zero, suc, _+_, _≤_, _<_}
 use mathlib.Core.Path.{_≡_, refl, sym, ap, _∙_, subst}
 use mathlib.Core.Logic.{_↔_}

@@ -1,4 +1,4 @@
--- Serves document 01, 'Term bytes': a term that the checks of crate `terms` take is one term of declared items.
+-- Serves document 01, 'Term bytes': a term that the checks of crate `terms` take is one term by its arities.
 use mathlib.Core.Path.{_≡_, refl}
 use mathlib.Core.Bool.{Bool, true, false}
 use mathlib.Core.List.{List, [], _∷_}
