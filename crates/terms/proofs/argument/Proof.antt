@@ -62,7 +62,7 @@ part-result-start-2 : tie.Need-part-result-start-2
 part-result-start-2 c = search needs
 
 part-result-end-2 : tie.Need-part-result-end-2
-part-result-end-2 c = arg-in _ _ _ _ _ (sym (c .before .before .before .before .argument-refusal .ensures) ∙ c .before .before .before .if1 .left) (c .before .before .arg-at .ensures) (c .walk .ensures) .0
+part-result-end-2 c = omega (arith, arg-in _ _ _ _ _ (sym (c .before .before .before .before .argument-refusal .ensures) ∙ c .before .before .before .if1 .left) (c .before .before .arg-at .ensures) (c .walk .ensures) .0)
 
 returns-2 : tie.Need-returns-2
 unfolding argBytes
