@@ -1,5 +1,5 @@
--- Serves document 01, 'Paths and keys' (candidates): where the terms of a question end, item by item, read from the last item to
--- the first.
+-- Serves SCOPE.md, 'Paths and keys' (candidates): where the terms of a question end, item by item, read from the last
+-- item to the first.
 use Prim.Native.Nat.{ℕ, _≤_, _<_}
 use mathlib.Core.Path.{_≡_}
 use mathlib.Core.List.{List}
@@ -12,4 +12,5 @@ EndsFrom from n ends = (i : ℕ) → from ≤ i → i < n → (i < getD ends i 0
 
 -- the trees from the end of the term at item i on are those that follow that term
 abbrev pub Ended : ℕ → List ℕ → List ℕ → List ℕ → Type 0
-Ended from sig items ends = (i : ℕ) → from ≤ i → i < length items → forest sig (drop (getD ends i 0) items) ≡ others 1 (forest sig (drop i items))
+Ended from sig items ends = (i : ℕ) → from ≤ i → i < length items
+    → forest sig (drop (getD ends i 0) items) ≡ others 1 (forest sig (drop i items))

@@ -1,5 +1,5 @@
--- Serves document 01, 'Paths and keys' (candidates): laws of the trees that items spell: how many items they have, and how a walk
--- passes from one to the next.
+-- Serves SCOPE.md, 'Paths and keys' (candidates): laws of the trees that items spell: how many items they have, and
+-- how a walk passes from one to the next.
 use Prim.Native.Nat.{ℕ, zero, suc, _+_, _-_, _*_, _≤_, _<_}
 use mathlib.Core.Path.{_≡_, refl, sym, ap, _∙_}
 use mathlib.Core.List.{List, [], _∷_}
@@ -10,6 +10,7 @@ use lib.Seq.{drop-cons}
 use Rattle.keys.specs.Keys.{Tm, Args, node, nil, cons, size, sizes}
 use Rattle.definitions.specs.Trees.{firsts, others, forest, top}
 use Rattle.candidates.specs.Ends.{Ended}
+use Rattle.terms.specs.Terms.{arity}
 
 split-sizes : (k : ℕ) (us : Args) → sizes (firsts k us) + sizes (others k us) ≡ sizes us
 unfolding firsts others sizes
@@ -21,7 +22,7 @@ split-sizes (suc k) (cons t us) = omega (arith, split-sizes k us)
 pub forest-sizes : (sig xs : List ℕ) → sizes (forest sig xs) ≡ length xs
 unfolding forest sizes size
 forest-sizes sig [] = refl
-forest-sizes sig (x ∷ xs) = omega (arith, split-sizes (getD sig x 0) (forest sig xs), forest-sizes sig xs)
+forest-sizes sig (x ∷ xs) = omega (arith, split-sizes (arity sig x) (forest sig xs), forest-sizes sig xs)
 
 pub others-one : (k : ℕ) (us : Args) → others (suc k) us ≡ others k (others 1 us)
 unfolding others
@@ -45,15 +46,15 @@ forest-end sig items i k h = rw (drop-of-length-le items h) (others-nil k)
 
 -- the tree at item i, and those after it
 pub forest-at : (sig items : List ℕ) (i : ℕ) → i < length items
-    → forest sig (drop i items) ≡ cons (node (getD items i 0) (firsts (getD sig (getD items i 0) 0) (forest sig (drop (i + 1) items)))) (others (getD sig (getD items i 0) 0) (forest sig (drop (i + 1) items)))
+    → forest sig (drop i items) ≡ cons (node (getD items i 0) (firsts (arity sig (getD items i 0)) (forest sig (drop (i + 1) items)))) (others (arity sig (getD items i 0)) (forest sig (drop (i + 1) items)))
 unfolding forest
 forest-at sig items i h = rw (drop-cons items i 0 h, add-one i)
 
-pub forest-next : (sig items : List ℕ) (i : ℕ) → i < length items → others 1 (forest sig (drop i items)) ≡ others (getD sig (getD items i 0) 0) (forest sig (drop (i + 1) items))
+pub forest-next : (sig items : List ℕ) (i : ℕ) → i < length items → others 1 (forest sig (drop i items)) ≡ others (arity sig (getD items i 0)) (forest sig (drop (i + 1) items))
 unfolding others
 forest-next sig items i h = rw (forest-at sig items i h)
 
-pub forest-top : (sig items : List ℕ) (i : ℕ) → i < length items → top (forest sig (drop i items)) ≡ node (getD items i 0) (firsts (getD sig (getD items i 0) 0) (forest sig (drop (i + 1) items)))
+pub forest-top : (sig items : List ℕ) (i : ℕ) → i < length items → top (forest sig (drop i items)) ≡ node (getD items i 0) (firsts (arity sig (getD items i 0)) (forest sig (drop (i + 1) items)))
 unfolding top
 forest-top sig items i h = rw (forest-at sig items i h)
 
@@ -86,6 +87,6 @@ module _ (sig items : List ℕ) (c e j : ℕ) (all : others j (forest sig (drop 
   kids-turn ends h l d =
       let s = kids-some h l in
       let f = forest-at sig items c (omega arith) in
-      let g : forest sig (drop (getD ends c 0) items) ≡ others (getD sig (getD items c 0) 0) (forest sig (drop (c + 1) items)) = d c (omega arith) (omega arith) ∙ forest-next sig items c (omega arith) in
+      let g : forest sig (drop (getD ends c 0) items) ≡ others (arity sig (getD items c 0)) (forest sig (drop (c + 1) items)) = d c (omega arith) (omega arith) ∙ forest-next sig items c (omega arith) in
       let a : others (suc (j - 1)) (forest sig (drop c items)) ≡ forest sig (drop e items) = rw (← s) all in
       (ap (λ (k : ℕ). firsts k (forest sig (drop c items))) s ∙ first-of (j - 1) (forest sig (drop c items)) _ _ f ∙ ap (λ (us : Args). cons (top (forest sig (drop c items))) (firsts (j - 1) us)) (sym g), rw g (rw f at a))

@@ -1,7 +1,7 @@
 pub mod Ends
 pub mod Forests
 pub mod Has
-pub mod Means
+pub mod CandidatesMean
 pub mod Narrow
 pub mod None
 pub mod Walk

@@ -1,4 +1,5 @@
--- Serves document 01, 'Paths and keys' (candidates): from no slots the walk leaves none, so a walk may stop where a set is empty.
+-- Serves SCOPE.md, 'Paths and keys' (candidates): from no slots the walk leaves none, so a walk may stop where a set
+-- is empty.
 use Prim.Native.Nat.{ℕ, zero, suc, _+_, _*_, _≤_, _<_}
 use mathlib.Core.Path.{_≡_, refl, sym, ap, _∙_}
 use mathlib.Core.List.{List, [], _∷_}
@@ -12,9 +13,10 @@ use Rattle.laws.specs.Choice.{pick}
 use Rattle.slots.specs.Slots.{either, words8, noneIn}
 use Rattle.keys.specs.Keys.{Tm, Args, node, nil, cons}
 use Rattle.chains.specs.Chains.{find}
-use Rattle.bank.specs.Bank.{Sets, met, word}
+use Rattle.keysets.specs.KeySets.{Sets, met, word}
 use Rattle.paths.specs.Rep.{lab}
 use Rattle.candidates.specs.Walk.{having, walk, walkAll}
+use Rattle.laws.specs.Sizes.{keyLimit, variableBase}
 
 or-none : (a b : ℕ) → bitOr a b ≡ 0 → (a ≡ 0) × (b ≡ 0)
 or-none a b h = let e = or-add-and a b in let p = and-le-l a b in let q = and-le-r a b in (omega (arith, e, p, q, h), omega (arith, e, p, q, h))
@@ -43,7 +45,7 @@ none-words (a ∷ b ∷ c ∷ d ∷ e ∷ f ∷ g ∷ i ∷ []) l h =
 
 met-zero : (σ : Sets) (k : ℕ) → met σ k (replicate 8 0) ≡ replicate 8 0
 unfolding met words8
-met-zero σ k = go (ltb k 4096)
+met-zero σ k = go (ltb k keyLimit)
   where
     go : (b : Bool) → pick b (words8 (λ i. bitAnd (word σ k i) (getD (replicate {A = ℕ} 8 0) i 0))) (replicate {A = ℕ} 8 0) ≡ replicate {A = ℕ} 8 0
     go true = simp and-zero-r
@@ -58,7 +60,7 @@ module _ (link label : List ℕ) (σ : Sets) (qv tv : Bool) where
     unfolding walk
 
     pub walk-none : (q : Tm) (n : ℕ) → walk link label σ qv tv q n (replicate 8 0) ≡ replicate 8 0
-    walk-none (node x us) n = go (leb 32768 x) qv tv (met-zero σ (find link label (lab n 256))) (walkAll-from us (find link label (lab n x) * 8) (having link label σ n x (replicate 8 0)) (met-zero σ (find link label (lab n x))))
+    walk-none (node x us) n = go (leb variableBase x) qv tv (met-zero σ (find link label (lab n 256))) (walkAll-from us (find link label (lab n x) * 8) (having link label σ n x (replicate 8 0)) (met-zero σ (find link label (lab n x))))
       where
         A : List ℕ
         A = walkAll link label σ qv tv us (find link label (lab n x) * 8) (having link label σ n x (replicate 8 0))

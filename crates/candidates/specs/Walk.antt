@@ -1,4 +1,4 @@
--- Document 01, 'Paths and keys': the candidate walk over the question's tree, on sets of slots as words.
+-- SCOPE.md, 'Paths and keys': the candidate walk over the question's tree, on sets of slots as words.
 use Prim.Native.Nat.{ℕ, suc, _*_}
 use mathlib.Core.Bool.{Bool}
 use mathlib.Core.List.{List}
@@ -7,8 +7,9 @@ use Rattle.laws.specs.Choice.{pick}
 use Rattle.slots.specs.Slots.{either}
 use Rattle.keys.specs.Keys.{Tm, Args, node, nil, cons}
 use Rattle.chains.specs.Chains.{find}
-use Rattle.bank.specs.Bank.{Sets, met}
+use Rattle.keysets.specs.KeySets.{Sets, met}
 use Rattle.paths.specs.Rep.{lab}
+use Rattle.laws.specs.Sizes.{variableBase}
 
 module _ (link label : List ℕ) (σ : Sets) where
   -- the slots of ws that have the key with end e at place n; 256 is the star
@@ -20,7 +21,7 @@ module _ (link label : List ℕ) (σ : Sets) where
     -- the slots of ws whose term at place n agrees with the question's term
     unfoldable mutual
       pub walk : Tm → ℕ → List ℕ → List ℕ
-      walk (node x us) n ws = pick (leb 32768 x)
+      walk (node x us) n ws = pick (leb variableBase x)
           (pick qv ws (having n 256 ws))
           (pick tv
           (either (walkAll us (find link label (lab n x) * 8) (having n x ws)) (having n 256 ws))

@@ -1,24 +1,27 @@
-// The candidate walk: the slots whose term agrees with the question at each place met (document 01, 'Paths and keys').
-use bank::meet;
+// The candidate walk: the slots whose term agrees with the question at each place met (SCOPE.md, 'Paths and keys').
 use chains::find;
+use keysets::meet;
+use laws::ROOT;
+use laws::VARIABLE16;
 use laws::low;
 use laws::wide;
 use laws::wide16;
 use outline::decode;
 use slots::SlotSet;
+use termkeys::label_of;
+use termkeys::place_below;
 use terms::arity;
-use walks::label_of;
-use walks::place_below;
 ghost use mathlib.Core.Path.{_≡_};
 ghost use Prim.Native.Nat.{ℕ, _+_, _-_, _*_, _/_, _≤_, _<_};
 ghost use lib.ListN.{length, getD, drop};
-ghost use Rattle.bank.specs.Bank.{four};
+ghost use Rattle.keysets.specs.KeySets.{four};
 ghost use Rattle.definitions.specs.Candidates.{opens, stars as starsOf};
 ghost use Rattle.definitions.specs.Trees.{forest, others, top, treeOf};
-ghost use Rattle.walks.specs.Fill.{Sized};
+ghost use Rattle.termkeys.specs.Fill.{Sized};
 ghost use Rattle.candidates.specs.Ends.{EndsFrom, Ended};
 ghost use Rattle.candidates.specs.Narrow.{Narrowed};
 ghost use Rattle.candidates.specs.Walk.{having, walk};
+ghost use Rattle.laws.specs.Sizes.{rootPlace};
 
 // Which variables agree with anything at their place: the question's, the stored term's.
 pub struct Rule {
@@ -66,7 +69,9 @@ fn star_at(
     within: SlotSet,
 ) -> SlotSet
     requires { ⌜ Sized (now link) (now label) (now s0) (now s1) (now s2) (now s3) × (place < 40000) ⌝ }
-    ensures { λ r. ⌜ r .words ≡ having (now (link .entry)) (now (label .entry)) (four (now (s0 .entry)) (now (s1 .entry)) (now (s2 .entry)) (now (s3 .entry))) place 256 (within .words) ⌝ }
+    ensures { λ r. ⌜ r .words
+        ≡ having (now (link .entry)) (now (label .entry))
+        (four (now (s0 .entry)) (now (s1 .entry)) (now (s2 .entry)) (now (s3 .entry))) place 256 (within .words) ⌝ }
 {
     let k = find(link, label, label_of(place, 256));
     meet(s0, s1, s2, s3, k, within)
@@ -89,14 +94,17 @@ fn narrow(
     within: SlotSet,
 ) -> SlotSet
     requires { ⌜ Sized (now link) (now label) (now s0) (now s1) (now s2) (now s3) ⌝ }
-    requires { ⌜ (at < length (now items)) × (length (now items) ≤ at + levels) × (length (now items) ≤ 32) × EndsFrom 0 (length (now items)) (now ends) × (place < 40000) ⌝ }
-    ensures { λ r. ⌜ Narrowed (now (link .entry)) (now (label .entry)) (four (now (s0 .entry)) (now (s1 .entry)) (now (s2 .entry)) (now (s3 .entry))) (rule .open) (rule .stars) (now (items .entry)) (now (ends .entry)) at place (within .words) (r .words) ⌝ }
+    requires { ⌜ (at < length (now items)) × (length (now items) ≤ at + levels) × (length (now items) ≤ 32)
+        × EndsFrom 0 (length (now items)) (now ends) × (place < 40000) ⌝ }
+    ensures { λ r. ⌜ Narrowed (now (link .entry)) (now (label .entry))
+        (four (now (s0 .entry)) (now (s1 .entry)) (now (s2 .entry)) (now (s3 .entry))) (rule .open) (rule .stars)
+        (now (items .entry)) (now (ends .entry)) at place (within .words) (r .words) ⌝ }
 {
     if within.is_empty() {
         return within;
     }
     let x = items[at];
-    if 32768 <= x {
+    if VARIABLE16 <= x {
         if rule.open {
             return within;
         }
@@ -135,8 +143,12 @@ fn narrow(
 
 // Where the term at item i ends, from the ends of later items.
 fn end_after(sig: &[u8], items: &[u16], ends: &[u8; 32], i: usize) -> usize
-    requires { ⌜ (i < length (now items)) × (length (now items) ≤ 32) × EndsFrom (i + 1) (length (now items)) (now ends) × Ended (i + 1) (now sig) (now items) (now ends) ⌝ }
-    ensures { λ r. ⌜ (i < r) × (r ≤ length (now (items .entry))) × (forest (now (sig .entry)) (drop r (now (items .entry))) ≡ others 1 (forest (now (sig .entry)) (drop i (now (items .entry))))) ⌝ }
+    requires { ⌜ (i < length (now items)) × (length (now items) ≤ 32)
+        × EndsFrom (i + 1) (length (now items)) (now ends) × Ended (i + 1) (now sig) (now items) (now ends) ⌝ }
+    ensures { λ r. ⌜ (i < r) × (r ≤ length (now (items .entry)))
+        ×
+        (forest (now (sig .entry)) (drop r (now (items .entry))) ≡ others 1
+        (forest (now (sig .entry)) (drop i (now (items .entry))))) ⌝ }
 {
     let mut e = i + 1;
     let mut a = arity(sig, wide16(items[i]));
@@ -153,7 +165,8 @@ fn end_after(sig: &[u8], items: &[u16], ends: &[u8; 32], i: usize) -> usize
 // Where the term at each item ends, from the last item to the first.
 fn find_ends(sig: &[u8], items: &[u16], ends: &mut [u8; 32])
     requires { ⌜ (length (now items) ≤ 32) × (length (now ends) ≡ 32) ⌝ }
-    ensures { λ _. ⌜ EndsFrom 0 (length (now (items .entry))) (now (ends .exit)) × Ended 0 (now (sig .entry)) (now (items .entry)) (now (ends .exit)) ⌝ }
+    ensures { λ _. ⌜ EndsFrom 0 (length (now (items .entry))) (now (ends .exit))
+        × Ended 0 (now (sig .entry)) (now (items .entry)) (now (ends .exit)) ⌝ }
 {
     let mut i = items.len();
     while 0 < i {
@@ -175,8 +188,12 @@ pub fn candidates(
     question: &[u8],
     used: SlotSet,
 ) -> SlotSet
-    requires { ⌜ Sized (now link) (now label) (now s0) (now s1) (now s2) (now s3) × (2 ≤ length (now question)) × (length (now question) ≤ 64) ⌝ }
-    ensures { λ r. ⌜ r .words ≡ walk (now (link .entry)) (now (label .entry)) (four (now (s0 .entry)) (now (s1 .entry)) (now (s2 .entry)) (now (s3 .entry))) (opens relation) (starsOf relation) (treeOf (now (sig .entry)) (now (question .entry))) 32776 (used .words) ⌝ }
+    requires { ⌜ Sized (now link) (now label) (now s0) (now s1) (now s2) (now s3) × (2 ≤ length (now question))
+        × (length (now question) ≤ 64) ⌝ }
+    ensures { λ r. ⌜ r .words
+        ≡ walk (now (link .entry)) (now (label .entry))
+        (four (now (s0 .entry)) (now (s1 .entry)) (now (s2 .entry)) (now (s3 .entry))) (opens relation)
+        (starsOf relation) (treeOf (now (sig .entry)) (now (question .entry))) rootPlace (used .words) ⌝ }
 {
     let mut items = [0u16; 32];
     let mut ends = [0u8; 32];
@@ -193,7 +210,7 @@ pub fn candidates(
         &ends,
         rule_of(relation),
         0,
-        32776,
+        ROOT,
         32,
         used,
     )

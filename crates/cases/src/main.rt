@@ -1,114 +1,64 @@
-// Runs the cases of standard input and prints what each got (document 01, 'Both sides of the edges' and 'Numbers of refusal').
+// Runs the cases of standard input and prints what each got (SCOPE.md, 'Both sides of the edges' and 'Numbers of
+// refusal').
 //
-// A case is a line of a name, a word, a number and bytes in hex (- for none). Its first three words are printed, then the answer.
-// The number is the signature's length (open), how often (insert), the slot (delete, solve, measure), the relation (retrieve,
-// numbers), or the argument (argument). `grow` inserts as `insert` does, the second byte of the term one more each time.
-// `buffer` sets the length of the answer buffer, `table` makes one table, 0 to 7, shorter by one element, 8 none.
+// A case is a line of a name, a word, a number and bytes in hex (- for none). Its first three words are printed, then
+// the answer. The number is the signature's length (open), how often (insert), the slot (delete, solve, measure), the
+// relation (retrieve, numbers), or the argument (argument). `grow` inserts as `insert` does, the second byte of the
+// term one more each time. `buffer` sets the length of the answer buffer, `table` makes one table, 0 to 7, shorter by
+// one element, 8 none.
 mod say;
 mod text;
 
+use calls::Reply;
+use laws::BYTES;
+use laws::LABEL;
+use laws::LINK;
+use laws::SETS;
+use laws::USED;
 use libc::STDIN_FILENO;
 use libc::STDOUT_FILENO;
-use retrieve::retrieve as list;
-use retrieve::solve;
-use say::Got;
+use orders::call;
+use say::order_of;
 use say::say;
-use store::Inserted;
-use store::with_key;
 use text::Case;
 use text::case_at;
-use text::read_bytes;
-ghost use Prim.Native.Nat.{_≤_, _<_};
+ghost use Prim.Native.Nat.{_+_, _*_, _≤_, _<_};
 ghost use lib.ListN.{length};
 
-// Adds `step` to the second byte of a term, round past 255.
-fn bump(term: &mut [u8], step: u8) {
-    if 1 < term.len() {
-        term[1] = std::num::wrapping_add_u8(term[1], step);
+// The line, how many calls of its case are done, the length of the answer buffer, and the table that is lent too short.
+struct Place {
+    at: usize,
+    round: usize,
+    room: usize,
+    short: usize,
+}
+
+fn start() -> Place
+    ensures { λ r. ⌜ (r .round < 16777216) × (r .room ≤ 32768) ⌝ }
+{
+    Place {
+        at: 0,
+        round: 0,
+        room: 32768,
+        short: 8,
     }
 }
 
-// Inserts a term as often as asked, once at least, and answers the last insert's answer.
-fn insert_times(
-    times: usize,
-    step: u8,
-    term: &mut [u8],
-    bytes: &mut [u8],
-    used: &mut [u64],
-    label: &mut [u32],
-    link: &mut [u16],
-    s0: &mut [u64],
-    s1: &mut [u64],
-    s2: &mut [u64],
-    s3: &mut [u64],
-) -> Inserted {
-    let mut left = times;
-    while 1 < left {
-        store::insert(bytes, used, label, link, s0, s1, s2, s3, term);
-        bump(term, step);
-        left -= 1;
-    }
-    store::insert(bytes, used, label, link, s0, s1, s2, s3, term)
-}
-
-// `grow` adds one each time, `insert` nothing.
-fn step_of(word: u8) -> u8 {
-    if word == b'g' { 1 } else { 0 }
-}
-
-// Does what a case's word asks.
-fn perform(
-    word: u8,
-    number: usize,
-    part: &mut [u8],
-    bytes: &mut [u8],
-    used: &mut [u64],
-    label: &mut [u32],
-    link: &mut [u16],
-    s0: &mut [u64],
-    s1: &mut [u64],
-    s2: &mut [u64],
-    s3: &mut [u64],
-    out: &mut [u8],
-) -> Got {
-    match word {
-        b'o' => Got::Opened(store::open(bytes, used, label, link, s0, s1, s2, s3, part)),
-        b'i' | b'g' => {
-            let step = step_of(word);
-            let got = insert_times(number, step, part, bytes, used, label, link, s0, s1, s2, s3);
-            Got::Inserted(got)
-        }
-        b'd' => Got::Deleted(store::delete(bytes, used, label, link, s0, s1, s2, s3, number)),
-        b'k' => Got::Listed(with_key(bytes, used, label, link, s0, s1, s2, s3, part, out)),
-        b'r' | b'n' => {
-            let got = list(bytes, used, label, link, s0, s1, s2, s3, number, part, out);
-            Got::Retrieved(got)
-        }
-        b's' | b'm' => {
-            let got = solve(bytes, used, label, link, s0, s1, s2, s3, number, part, out);
-            Got::Solved(got)
-        }
-        _ => Got::Nothing,
-    }
-}
-
-// The length of a table, or one less.
-fn short_by(n: usize, one: bool) -> usize
+// The length of a table, or one less if it is the one that is too short.
+fn cut(n: usize, table: usize, short: usize) -> usize
     ensures { λ r. ⌜ r ≤ n ⌝ }
 {
-    if one {
-        if 0 < n {
-            return n - 1;
-        }
+    if table != short {
+        return n;
     }
-    n
+    if n == 0 { 0 } else { n - 1 }
 }
 
-// Performs a case on the tables, one of which may be lent too short.
+// One call of a case, on tables of which one may be lent too short.
 fn lend(
     case: Case,
-    short: usize,
-    given: &mut [u8],
+    place: Place,
+    given: &[u8; 512],
     bytes: &mut [u8],
     used: &mut [u64],
     label: &mut [u32],
@@ -118,21 +68,24 @@ fn lend(
     s2: &mut [u64],
     s3: &mut [u64],
     out: &mut [u8],
-) -> Got {
-    let word = case.word;
-    let number = case.number;
-    let l0 = short_by(bytes.len(), short == 0);
-    let l1 = short_by(used.len(), short == 1);
-    let l2 = short_by(label.len(), short == 2);
-    let l3 = short_by(link.len(), short == 3);
-    let l4 = short_by(s0.len(), short == 4);
-    let l5 = short_by(s1.len(), short == 5);
-    let l6 = short_by(s2.len(), short == 6);
-    let l7 = short_by(s3.len(), short == 7);
-    perform(
-        word,
-        number,
-        given,
+) -> Reply
+    requires { ⌜ (case .length ≤ 512) × (place .room ≤ length (now out)) ⌝ }
+{
+    let n = case.length;
+    let room = place.room;
+    let short = place.short;
+    let term = &given[..];
+    let l0 = cut(bytes.len(), 0, short);
+    let l1 = cut(used.len(), 1, short);
+    let l2 = cut(label.len(), 2, short);
+    let l3 = cut(link.len(), 3, short);
+    let l4 = cut(s0.len(), 4, short);
+    let l5 = cut(s1.len(), 5, short);
+    let l6 = cut(s2.len(), 6, short);
+    let l7 = cut(s3.len(), 7, short);
+    call(
+        order_of(case),
+        &term[..n],
         &mut bytes[..l0],
         &mut used[..l1],
         &mut label[..l2],
@@ -141,7 +94,7 @@ fn lend(
         &mut s1[..l5],
         &mut s2[..l6],
         &mut s3[..l7],
-        out,
+        &mut out[..room],
     )
 }
 
@@ -152,80 +105,95 @@ fn show(line: &[u8], n: usize) {
     }
 }
 
-// The number that a word sets, or the one that stood.
-fn setting(word: u8, sets: u8, number: usize, was: usize) -> usize {
-    if word == sets { number } else { was }
-}
-
-fn least(a: usize, b: usize) -> usize
-    ensures { λ r. ⌜ (r ≤ a) × (r ≤ b) ⌝ }
+// Writes a case's line after its last call.
+fn finish(case: Case, reply: Reply, head: &[u8], given: &[u8; 512], out: &[u8; 32768])
+    requires { ⌜ case .length ≤ 512 ⌝ }
 {
-    if a < b { a } else { b }
+    if 0 < case.left {
+        return;
+    }
+    let n = case.length;
+    let term = &given[..];
+    let mut line = [0u8; 4096];
+    let said = say(case, reply, head, &term[..n], out, &mut line);
+    show(&line, said);
 }
 
-// Runs case after case.
-fn run(
-    input: &[u8],
-    given: &mut [u8],
-    bytes: &mut [u8],
-    used: &mut [u64],
-    label: &mut [u32],
-    link: &mut [u16],
-    s0: &mut [u64],
-    s1: &mut [u64],
-    s2: &mut [u64],
-    s3: &mut [u64],
-    out: &mut [u8],
-    line: &mut [u8],
-) {
-    let mut at: usize = 0;
-    let mut room = out.len();
-    let mut short: usize = 8;
-    while at < input.len() {
-        let case = case_at(input, at);
-        let word = case.word;
-        let number = case.number;
-        let shown = case.shown;
-        let to = case.to;
-        room = setting(word, b'b', number, room);
-        short = setting(word, b't', number, short);
-        let n = read_bytes(input, word, number, case.from, to, given);
-        let most = least(room, out.len());
-        let g = &mut given[..n];
-        let o = &mut out[..most];
-        let got = lend(case, short, g, bytes, used, label, link, s0, s1, s2, s3, o);
-        let said = say(word, number, got, &given[..n], &input[at..shown], out, line);
-        show(line, said);
-        at = case.next;
+// The room that a case sets, as far as there is any.
+fn room_after(case: Case, room: usize) -> usize
+    requires { ⌜ room ≤ 32768 ⌝ }
+    ensures { λ r. ⌜ r ≤ 32768 ⌝ }
+{
+    if case.word != b'b' {
+        return room;
+    }
+    if 32768 < case.number {
+        32768
+    } else {
+        case.number
     }
 }
 
+// After a call: the same line where more calls are left, or else the next one.
+fn place_after(case: Case, place: Place) -> Place
+    requires { ⌜ (place .at < case .next) × (case .left + place .round < 16777216) × (place .room ≤ 32768) ⌝ }
+    ensures { λ r. ⌜ (r .round < 16777216) × (r .room ≤ 32768)
+        × (place .at * 16777216 + place .round < r .at * 16777216 + r .round) ⌝ }
+{
+    if 0 < case.left {
+        return Place {
+            at: place.at,
+            round: place.round + 1,
+            room: place.room,
+            short: place.short,
+        };
+    }
+    Place {
+        at: case.next,
+        round: 0,
+        room: room_after(case, place.room),
+        short: if case.word == b't' {
+            case.number
+        } else {
+            place.short
+        },
+    }
+}
+
+// Runs case after case.
 fn main() {
     let mut input = [0u8; 65536];
     let mut given = [0u8; 512];
-    let mut bytes = [0u8; 33538];
-    let mut used = [0u64; 8];
-    let mut label = [0u32; 4096];
-    let mut link = [0u16; 8190];
-    let mut s0 = [0u64; 8192];
-    let mut s1 = [0u64; 8192];
-    let mut s2 = [0u64; 8192];
-    let mut s3 = [0u64; 8192];
+    let mut bytes = [0u8; BYTES];
+    let mut used = [0u64; USED];
+    let mut label = [0u32; LABEL];
+    let mut link = [0u16; LINK];
+    let mut s0 = [0u64; SETS];
+    let mut s1 = [0u64; SETS];
+    let mut s2 = [0u64; SETS];
+    let mut s3 = [0u64; SETS];
     let mut out = [0u8; 32768];
-    let mut line = [0u8; 4096];
     let n = io::read_full(STDIN_FILENO, &mut input);
-    run(
-        &input[..n],
-        &mut given,
-        &mut bytes,
-        &mut used,
-        &mut label,
-        &mut link,
-        &mut s0,
-        &mut s1,
-        &mut s2,
-        &mut s3,
-        &mut out,
-        &mut line,
-    );
+    let mut place = start();
+    while place.at < n {
+        let at = place.at;
+        let case = case_at(&input[..n], at, place.round, &mut given);
+        let shown = case.shown;
+        let reply = lend(
+            case,
+            place,
+            &given,
+            &mut bytes,
+            &mut used,
+            &mut label,
+            &mut link,
+            &mut s0,
+            &mut s1,
+            &mut s2,
+            &mut s3,
+            &mut out,
+        );
+        finish(case, reply, &input[at..shown], &given, &out);
+        place = place_after(case, place);
+    }
 }

@@ -1,23 +1,24 @@
 // The line of what a case got: its first three words, then the answer as the log program writes it.
+use crate::text::Case;
+use calls::Reply;
+use laws::low;
 use laws::wide;
-use retrieve::Retrieved;
-use retrieve::Solved;
-use store::Deleted;
-use store::Inserted;
-use store::Listed;
-use store::Opened;
+use orders::Order;
 ghost use Prim.Native.Nat.{_≤_, _<_};
 ghost use lib.ListN.{length};
 
-// What a case got.
-pub enum Got {
-    Opened(Opened),
-    Inserted(Inserted),
-    Deleted(Deleted),
-    Listed(Listed),
-    Retrieved(Retrieved),
-    Solved(Solved),
-    Nothing,
+// The call that a case's word asks for.
+pub fn order_of(case: Case) -> Order {
+    let word = case.word;
+    match word {
+        b'o' => Order::Open,
+        b'i' | b'g' => Order::Insert,
+        b'd' => Order::Delete(case.number),
+        b'k' => Order::WithKey,
+        b'r' | b'n' => Order::Retrieve(case.number),
+        b's' | b'm' => Order::Solve(case.number),
+        _ => Order::Nothing,
+    }
 }
 
 fn least(a: usize, b: usize) -> usize
@@ -41,19 +42,9 @@ fn checksum(bytes: &[u8]) -> usize
 
 // Two numbers and the checksum of some bytes, for answers too long to print.
 fn short_line(line: &mut [u8], head: &[u8], a: usize, b: usize, bytes: &[u8]) -> usize {
-    let x = log::put_bytes(line, 0, head);
-    let y = put_two(line, x, a, b);
-    let z = log::put_figure(line, y, checksum(bytes));
-    log::put_byte(line, z, b'\n')
-}
-
-fn put_two(line: &mut [u8], at: usize, a: usize, b: usize) -> usize
-    requires { ⌜ at ≤ length (now line) ⌝ }
-    ensures { λ r. ⌜ r ≤ length (now (line .exit)) ⌝ }
-{
-    let x = log::put_bytes(line, at, b" ok");
-    let y = log::put_figure(line, x, a);
-    log::put_figure(line, y, b)
+    let sum = checksum(bytes);
+    let two = [low(sum / 256), low(sum % 256)];
+    log::found_line(line, head, a, b, &two)
 }
 
 // The number of slots of a listing, and the slots.
@@ -63,78 +54,6 @@ fn listed_line(line: &mut [u8], head: &[u8], slots: usize, listing: &[u8]) -> us
     let z = log::put_figure(line, y, slots);
     let w = log::put_slots(line, z, listing);
     log::put_byte(line, w, b'\n')
-}
-
-fn say_opened(got: Opened, head: &[u8], line: &mut [u8]) -> usize {
-    match got {
-        Opened::Open => log::plain_line(line, head),
-        Opened::Refused(why) => log::refused_line(line, head, why.number()),
-    }
-}
-
-fn say_inserted(got: Inserted, head: &[u8], line: &mut [u8]) -> usize {
-    match got {
-        Inserted::Slot(slot) => log::slot_line(line, head, slot),
-        Inserted::Refused(why) => log::refused_line(line, head, why.number()),
-    }
-}
-
-fn say_deleted(got: Deleted, head: &[u8], line: &mut [u8]) -> usize {
-    match got {
-        Deleted::Slot(slot) => log::slot_line(line, head, slot),
-        Deleted::Refused(why) => log::refused_line(line, head, why.number()),
-    }
-}
-
-fn say_slots(slots: usize, head: &[u8], out: &[u8], line: &mut [u8]) -> usize {
-    let n = least(slots, out.len() / 2) * 2;
-    listed_line(line, head, slots, &out[..n])
-}
-
-fn say_listed(got: Listed, head: &[u8], out: &[u8], line: &mut [u8]) -> usize {
-    match got {
-        Listed::Slots(slots) => say_slots(slots, head, out, line),
-        Listed::Refused(why) => log::refused_line(line, head, why.number()),
-    }
-}
-
-// The word `numbers` prints no slots.
-fn say_found(word: u8, c: usize, a: usize, head: &[u8], out: &[u8], line: &mut [u8]) -> usize {
-    let n = least(a, out.len() / 2) * 2;
-    if word == b'n' {
-        return short_line(line, head, c, a, &out[..n]);
-    }
-    log::found_line(line, head, c, a, &out[..n])
-}
-
-fn say_retrieved(word: u8, got: Retrieved, head: &[u8], out: &[u8], line: &mut [u8]) -> usize {
-    match got {
-        Retrieved::Listed(c, a) => say_found(word, c, a, head, out, line),
-        Retrieved::Refused(why) => log::refused_line(line, head, why.number()),
-    }
-}
-
-// The word `measure` prints the length of a record and not its bytes.
-fn say_record(
-    word: u8,
-    fields: usize,
-    written: usize,
-    head: &[u8],
-    out: &[u8],
-    line: &mut [u8],
-) -> usize {
-    let n = least(written, out.len());
-    if word == b'm' {
-        return short_line(line, head, fields, written, &out[..n]);
-    }
-    log::solved_line(line, head, fields, &out[..n])
-}
-
-fn say_solved(word: u8, got: Solved, head: &[u8], out: &[u8], line: &mut [u8]) -> usize {
-    match got {
-        Solved::Record(fields, written) => say_record(word, fields, written, head, out, line),
-        Solved::Refused(why) => log::refused_line(line, head, why.number()),
-    }
 }
 
 // Argument i of a term over the signature of P1 to P12: how many bytes it has, and its bytes.
@@ -148,31 +67,72 @@ fn say_argument(i: usize, term: &[u8], head: &[u8], line: &mut [u8]) -> usize {
     log::solved_line(line, head, part.len(), part)
 }
 
-// The words `buffer` and `table`, and a line that is no case, say nothing.
-fn say_other(word: u8, number: usize, given: &[u8], head: &[u8], line: &mut [u8]) -> usize {
-    if word == b'a' {
-        return say_argument(number, given, head, line);
+// How many bytes of the answer buffer an answer has: two a slot of a listing, or a record.
+fn written(order: Order, first: usize, second: usize) -> usize
+    ensures { λ r. ⌜ r ≤ 32768 ⌝ }
+{
+    match order {
+        Order::WithKey => least(first, 16384) * 2,
+        Order::Retrieve(_) => least(second, 16384) * 2,
+        Order::Solve(_) => least(second, 32768),
+        _ => 0,
+    }
+}
+
+// The words `numbers` and `measure` print no bytes but their checksum.
+fn say_bytes(
+    word: u8,
+    first: usize,
+    second: usize,
+    head: &[u8],
+    bytes: &[u8],
+    line: &mut [u8],
+) -> usize {
+    match word {
+        b'o' => log::plain_line(line, head),
+        b'k' => listed_line(line, head, first, bytes),
+        b'r' => log::found_line(line, head, first, second, bytes),
+        b's' => log::solved_line(line, head, first, bytes),
+        b'n' | b'm' => short_line(line, head, first, second, bytes),
+        _ => log::slot_line(line, head, first),
+    }
+}
+
+fn say_done(
+    case: Case,
+    first: usize,
+    second: usize,
+    head: &[u8],
+    out: &[u8; 32768],
+    line: &mut [u8],
+) -> usize {
+    let n = written(order_of(case), first, second);
+    let answer = &out[..];
+    say_bytes(case.word, first, second, head, &answer[..n], line)
+}
+
+// LOG says that the word is no call: `argument`, or one that says nothing.
+fn say_refused(case: Case, number: u8, head: &[u8], given: &[u8], line: &mut [u8]) -> usize {
+    if number != 16 {
+        return log::refused_line(line, head, number);
+    }
+    if case.word == b'a' {
+        return say_argument(case.number, given, head, line);
     }
     0
 }
 
 // Writes the line of a case, and answers its length.
 pub fn say(
-    word: u8,
-    number: usize,
-    got: Got,
-    given: &[u8],
+    case: Case,
+    reply: Reply,
     head: &[u8],
-    out: &[u8],
+    given: &[u8],
+    out: &[u8; 32768],
     line: &mut [u8],
 ) -> usize {
-    match got {
-        Got::Opened(it) => say_opened(it, head, line),
-        Got::Inserted(it) => say_inserted(it, head, line),
-        Got::Deleted(it) => say_deleted(it, head, line),
-        Got::Listed(it) => say_listed(it, head, out, line),
-        Got::Retrieved(it) => say_retrieved(word, it, head, out, line),
-        Got::Solved(it) => say_solved(word, it, head, out, line),
-        Got::Nothing => say_other(word, number, given, head, line),
+    match reply {
+        Reply::Done(first, second) => say_done(case, first, second, head, out, line),
+        Reply::Refused(why) => say_refused(case, why.number(), head, given, line),
     }
 }

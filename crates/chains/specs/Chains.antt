@@ -1,5 +1,6 @@
--- Serves document 01, 'Store' ('freed keys are used again'): chains of keys through one table of links: link[k] for a key k below
--- 4,096, and from 4,096 on where each chain starts. A link is 0 at a chain's end, else one more than the key.
+-- Serves SCOPE.md, 'Store' ('freed keys are used again'): chains of keys through one table of links: link[k] for a
+-- key k below 4,096, and from 4,096 on where each chain starts. A link is 0 at a chain's end, else one more than the
+-- key.
 use Prim.Native.Nat.{ℕ, zero, suc, _+_, _%_, _≤_, _<_}
 use mathlib.Core.Path.{_≡_, refl, sym, ap, _∙_}
 use mathlib.Core.Logic.{_⊎_, inl, inr, _↔_, ⊎-elim}
@@ -14,29 +15,32 @@ use lib.ListN.{length, getD, set, length-set}
 use lib.Seq.{getD-set-same, getD-set-other}
 use Rattle.laws.specs.Members.{In, NoDup, nodup-bound}
 use Rattle.laws.specs.Choice.{pick}
+use Rattle.laws.specs.Sizes.{freeHead, keyLimit, linkLength}
 
 -- where the chain of a label starts: the free keys, whose label is 0, have a chain of their own
 unfoldable pub home : ℕ → ℕ
-home zero = 8189
-home (suc l) = 4096 + l % 4093
+home zero = freeHead
+home (suc l) = keyLimit + l % 4093
 
 -- the first key with label w on the chain from the link x on; 4096 where there is none
 unfoldable pub foundFrom : List ℕ → List ℕ → ℕ → ℕ → ℕ → ℕ
-foundFrom link label w zero x = 4096
-foundFrom link label w (suc f) zero = 4096
-foundFrom link label w (suc f) (suc k) = pick (eqb (getD label (k % 4096) 0) w) (k % 4096) (foundFrom link label w f (getD link (k % 4096) 0))
+foundFrom link label w zero x = keyLimit
+foundFrom link label w (suc f) zero = keyLimit
+foundFrom link label w (suc f) (suc k) = pick (eqb (getD label (k % keyLimit) 0) w) (k % keyLimit)
+    (foundFrom link label w f (getD link (k % keyLimit) 0))
 
 unfoldable pub find : List ℕ → List ℕ → ℕ → ℕ
-find link label w = foundFrom link label w 4096 (getD link (home w) 0)
+find link label w = foundFrom link label w keyLimit (getD link (home w) 0)
 
 -- the links with the key k taken off the chain that goes on at place `at` with the link x
 unfoldable pub unlink : List ℕ → ℕ → ℕ → ℕ → ℕ → List ℕ
 unlink link k zero at x = link
 unlink link k (suc f) at zero = link
-unlink link k (suc f) at (suc j) = pick (eqb j k) (set link at (getD link k 0)) (unlink link k f (j % 4096) (getD link (j % 4096) 0))
+unlink link k (suc f) at (suc j) = pick (eqb j k) (set link at (getD link k 0))
+    (unlink link k f (j % keyLimit) (getD link (j % keyLimit) 0))
 
 unfoldable pub taken : List ℕ → List ℕ → ℕ → List ℕ
-taken link label k = unlink link k 4096 (home (getD label k 0)) (getD link (home (getD label k 0)) 0)
+taken link label k = unlink link k keyLimit (home (getD label k 0)) (getD link (home (getD label k 0)) 0)
 
 unfoldable pub pushed : List ℕ → ℕ → ℕ → List ℕ
 pushed link at k = set (set link k (getD link at 0)) at (suc k)
@@ -56,13 +60,13 @@ linked-frame link link′ x xs (one {k = k} {xs = ys} l) h =
     one {k = k} {xs = ys} (rw (h k (inl refl)) (linked-frame link link′ _ ys l (λ j i. h j (inr i))))
 
 -- the search finds a key of the chain with that label, if there is one
-pub found-sound : (link label : List ℕ) (w f x : ℕ) (xs : List ℕ) → Linked link x xs → ((k : ℕ) → In k xs → k < 4096)
-    → foundFrom link label w f x < 4096 → In (foundFrom link label w f x) xs × (getD label (foundFrom link label w f x) 0 ≡ w)
+pub found-sound : (link label : List ℕ) (w f x : ℕ) (xs : List ℕ) → Linked link x xs → ((k : ℕ) → In k xs → k < keyLimit)
+    → foundFrom link label w f x < keyLimit → In (foundFrom link label w f x) xs × (getD label (foundFrom link label w f x) 0 ≡ w)
 unfolding foundFrom
 found-sound link label w zero x xs l b h = absurd (omega arith)
 found-sound link label w (suc f) x xs end b h = absurd (omega arith)
 found-sound link label w (suc f) x xs (one {k = k} {xs = ys} l) b h =
-    let e : k % 4096 ≡ k = mod-eq-of-lt (b k (inl refl)) in
+    let e : k % keyLimit ≡ k = mod-eq-of-lt (b k (inl refl)) in
     let h′ = rw e at h in
     rw e (go (ℕ-discrete (getD label k 0) w) h′ (found-sound link label w f (getD link k 0) ys l (λ j i. b j (inr i))))
   where
@@ -72,21 +76,21 @@ found-sound link label w (suc f) x xs (one {k = k} {xs = ys} l) b h =
     P : ℕ → Type 0
     P m = In m (k ∷ ys) × (getD label m 0 ≡ w)
 
-    go : Dec (getD label k 0 ≡ w) → pick (eqb (getD label k 0) w) k r < 4096 → (r < 4096 → In r ys × (getD label r 0 ≡ w)) → P (pick (eqb (getD label k 0) w) k r)
+    go : Dec (getD label k 0 ≡ w) → pick (eqb (getD label k 0) w) k r < keyLimit → (r < keyLimit → In r ys × (getD label r 0 ≡ w)) → P (pick (eqb (getD label k 0) w) k r)
     go (yes e) g ih = rw (eq-eqb _ _ e) (inl refl, e)
     go (no n) g ih = let g′ = rw (ne-eqb _ _ n) at g in rw (ne-eqb _ _ n) (inr (ih g′ .0), ih g′ .1)
 
-pub found-complete : (link label : List ℕ) (w f x : ℕ) (xs : List ℕ) → Linked link x xs → ((k : ℕ) → In k xs → k < 4096)
-    → length xs ≤ f → (k : ℕ) → In k xs → getD label k 0 ≡ w → foundFrom link label w f x < 4096
+pub found-complete : (link label : List ℕ) (w f x : ℕ) (xs : List ℕ) → Linked link x xs → ((k : ℕ) → In k xs → k < keyLimit)
+    → length xs ≤ f → (k : ℕ) → In k xs → getD label k 0 ≡ w → foundFrom link label w f x < keyLimit
 unfolding foundFrom
 found-complete link label w f x xs end b n k i e = absurd i
 found-complete link label w zero x xs (one l) b n k i e = absurd (omega arith)
 found-complete link label w (suc f) x xs (one {k = j} {xs = ys} l) b n k i e =
-    let m : j % 4096 ≡ j = mod-eq-of-lt (b j (inl refl)) in
+    let m : j % keyLimit ≡ j = mod-eq-of-lt (b j (inl refl)) in
     rw m (go (ℕ-discrete (getD label j 0) w) i (λ i′. found-complete link label w f (getD link j 0) ys l (λ j i. b j (inr i)) (omega arith) k i′ e))
   where
-    go : Dec (getD label j 0 ≡ w) → In k (j ∷ ys) → (In k ys → foundFrom link label w f (getD link j 0) < 4096)
-        → pick (eqb (getD label j 0) w) j (foundFrom link label w f (getD link j 0)) < 4096
+    go : Dec (getD label j 0 ≡ w) → In k (j ∷ ys) → (In k ys → foundFrom link label w f (getD link j 0) < keyLimit)
+        → pick (eqb (getD label j 0) w) j (foundFrom link label w f (getD link j 0)) < keyLimit
     go (yes e′) i ih = rw (eq-eqb _ _ e′) (b j (inl refl))
     go (no n) (inl q) ih = absurd (n (rw q at e))
     go (no n) (inr i) ih = rw (ne-eqb _ _ n) (ih i)
@@ -101,13 +105,13 @@ pub record Shorter (link link′ : List ℕ) (at k : ℕ) (xs : List ℕ) : Type
   pub frame : (p : ℕ) → (p ≡ at → ⊥) → (In p xs → ⊥) → getD link′ p 0 ≡ getD link p 0
   pub same : length link′ ≡ length link
 
-shorter : (link : List ℕ) (k f at x : ℕ) (xs : List ℕ) → getD link at 0 ≡ x → Linked link x xs → at < length link → 4096 ≤ length link → (In at xs → ⊥) → NoDup xs
-    → ((j : ℕ) → In j xs → j < 4096) → length xs ≤ f → In k xs → Shorter link (unlink link k f at x) at k xs
+shorter : (link : List ℕ) (k f at x : ℕ) (xs : List ℕ) → getD link at 0 ≡ x → Linked link x xs → at < length link → keyLimit ≤ length link → (In at xs → ⊥) → NoDup xs
+    → ((j : ℕ) → In j xs → j < keyLimit) → length xs ≤ f → In k xs → Shorter link (unlink link k f at x) at k xs
 unfolding unlink
 shorter link k f at x xs a end m n o d b t i = absurd i
 shorter link k zero at x xs a (one l) m n o d b t i = absurd (omega arith)
 shorter link k (suc f) at x xs a (one {k = j} {xs = ys} l) m n o d b t i =
-    let e : j % 4096 ≡ j = mod-eq-of-lt (b j (inl refl)) in
+    let e : j % keyLimit ≡ j = mod-eq-of-lt (b j (inl refl)) in
     rw e (go (ℕ-discrete j k) i (λ i′. shorter link k f j (getD link j 0) ys refl l (omega (arith, b j (inl refl))) n (d .0) (d .1) (λ p q. b p (inr q)) (omega arith) i′))
   where
     tail : List ℕ
@@ -141,51 +145,51 @@ pub record Chain (link label : List ℕ) (out b : ℕ) : Type 0 where
   pub keys : List ℕ
   pub linked : Linked link (getD link b 0) keys
   pub nodup : NoDup keys
-  pub from : (k : ℕ) → In k keys → (k < 4096) × (home (getD label k 0) ≡ b) × (k ≡ out → ⊥)
-  pub into : (k : ℕ) → k < 4096 → home (getD label k 0) ≡ b → (k ≡ out → ⊥) → In k keys
+  pub from : (k : ℕ) → In k keys → (k < keyLimit) × (home (getD label k 0) ≡ b) × (k ≡ out → ⊥)
+  pub into : (k : ℕ) → k < keyLimit → home (getD label k 0) ≡ b → (k ≡ out → ⊥) → In k keys
 
 unfoldable pub Chains : List ℕ → List ℕ → ℕ → Type 0
-Chains link label out = (b : ℕ) → 4096 ≤ b → b < 8190 → Chain link label out b
+Chains link label out = (b : ℕ) → keyLimit ≤ b → b < linkLength → Chain link label out b
 
-pub home-low : (w : ℕ) → (4096 ≤ home w) × (home w < 8190)
+pub home-low : (w : ℕ) → (keyLimit ≤ home w) × (home w < linkLength)
 unfolding home
 home-low zero = (omega arith, omega arith)
 home-low (suc l) = (omega arith, omega arith)
 
 -- find answers a key with the label, if some key has it
-pub find-sound : (link label : List ℕ) (w : ℕ) → Chains link label 4096 → find link label w < 4096 → getD label (find link label w) 0 ≡ w
+pub find-sound : (link label : List ℕ) (w : ℕ) → Chains link label keyLimit → find link label w < keyLimit → getD label (find link label w) 0 ≡ w
 unfolding find Chains
 find-sound link label w c h = let d = c (home w) (home-low w .0) (home-low w .1) in
-    found-sound link label w 4096 (getD link (home w) 0) (d .keys) (d .linked) (λ k i. d .from k i .0) h .1
+    found-sound link label w keyLimit (getD link (home w) 0) (d .keys) (d .linked) (λ k i. d .from k i .0) h .1
 
-pub find-complete : (link label : List ℕ) (w k : ℕ) → Chains link label 4096 → k < 4096 → getD label k 0 ≡ w → find link label w < 4096
+pub find-complete : (link label : List ℕ) (w k : ℕ) → Chains link label keyLimit → k < keyLimit → getD label k 0 ≡ w → find link label w < keyLimit
 unfolding find Chains
 find-complete link label w k c h e = let d = c (home w) (home-low w .0) (home-low w .1) in
-    found-complete link label w 4096 (getD link (home w) 0) (d .keys) (d .linked) (λ k i. d .from k i .0)
-    (nodup-bound 4096 (d .keys) (d .nodup) (λ k i. d .from k i .0)) k (d .into k h (ap home e) (λ z. omega arith)) e
+    found-complete link label w keyLimit (getD link (home w) 0) (d .keys) (d .linked) (λ k i. d .from k i .0)
+    (nodup-bound keyLimit (d .keys) (d .nodup) (λ k i. d .from k i .0)) k (d .into k h (ap home e) (λ z. omega arith)) e
 
 -- k taken off its chain
-pub taken-chains : (link label : List ℕ) (k : ℕ) → 8190 ≤ length link → k < 4096 → Chains link label 4096 → Chains (taken link label k) label k × (length (taken link label k) ≡ length link)
+pub taken-chains : (link label : List ℕ) (k : ℕ) → linkLength ≤ length link → k < keyLimit → Chains link label keyLimit → Chains (taken link label k) label k × (length (taken link label k) ≡ length link)
 unfolding taken Chains
 taken-chains link label k n h c = ((λ b lo hi. go b lo hi (ℕ-discrete b at)), s .same)
   where
     at : ℕ
     at = home (getD label k 0)
 
-    lo-at : (4096 ≤ at) × (at < 8190)
+    lo-at : (keyLimit ≤ at) × (at < linkLength)
     lo-at = home-low (getD label k 0)
 
-    d : Chain link label 4096 at
+    d : Chain link label keyLimit at
     d = c at (lo-at .0) (lo-at .1)
 
     link′ : List ℕ
-    link′ = unlink link k 4096 at (getD link at 0)
+    link′ = unlink link k keyLimit at (getD link at 0)
 
     s : Shorter link link′ at k (d .keys)
-    s = shorter link k 4096 at (getD link at 0) (d .keys) refl (d .linked) (omega (arith, lo-at .1)) (omega arith) (λ i. let z = d .from at i .0 in omega (arith, z, lo-at .0))
-        (d .nodup) (λ j i. d .from j i .0) (nodup-bound 4096 (d .keys) (d .nodup) (λ k i. d .from k i .0)) (d .into k h refl (λ z. omega arith))
+    s = shorter link k keyLimit at (getD link at 0) (d .keys) refl (d .linked) (omega (arith, lo-at .1)) (omega arith) (λ i. let z = d .from at i .0 in omega (arith, z, lo-at .0))
+        (d .nodup) (λ j i. d .from j i .0) (nodup-bound keyLimit (d .keys) (d .nodup) (λ k i. d .from k i .0)) (d .into k h refl (λ z. omega arith))
 
-    go : (b : ℕ) → 4096 ≤ b → b < 8190 → Dec (b ≡ at) → Chain link′ label k b
+    go : (b : ℕ) → keyLimit ≤ b → b < linkLength → Dec (b ≡ at) → Chain link′ label k b
     go b lo hi (yes e) = rw e (record {
       keys = s .left;
       linked = s .linked;
@@ -203,14 +207,14 @@ taken-chains link label k n h c = ((λ b lo hi. go b lo hi (ℕ-discrete b at)),
     }
 
 -- k put in front of the chain of its new label
-pub pushed-chains : (link label : List ℕ) (k w : ℕ) → 8190 ≤ length link → k < 4096 → k < length label → Chains link label k → Chains (pushed link (home w) k) (set label k w) 4096
+pub pushed-chains : (link label : List ℕ) (k w : ℕ) → linkLength ≤ length link → k < keyLimit → k < length label → Chains link label k → Chains (pushed link (home w) k) (set label k w) keyLimit
 unfolding pushed Chains
 pushed-chains link label k w n h m c b lo hi = go (ℕ-discrete b at)
   where
     at : ℕ
     at = home w
 
-    lo-at : (4096 ≤ at) × (at < 8190)
+    lo-at : (keyLimit ≤ at) × (at < linkLength)
     lo-at = home-low w
 
     a : Chain link label k b
@@ -243,7 +247,7 @@ pushed-chains link label k w n h m c b lo hi = go (ℕ-discrete b at)
     new : getD (set label k w) k 0 ≡ w
     new = getD-set-same label k w 0 m
 
-    go : Dec (b ≡ at) → Chain link′ (set label k w) 4096 b
+    go : Dec (b ≡ at) → Chain link′ (set label k w) keyLimit b
     go (yes e) = record {
       keys = k ∷ a .keys;
       linked = rw (ap (λ (q : ℕ). getD link′ q 0) e ∙ here) (one {k = k} {xs = a .keys} (rw next (rest (getD link at 0) (rw (ap (λ (q : ℕ). getD link q 0) e) at (a .linked)))));
@@ -253,7 +257,7 @@ pushed-chains link label k w n h m c b lo hi = go (ℕ-discrete b at)
       into = λ j l g z. sort j l g (ℕ-discrete j k);
     }
       where
-        sort : (j : ℕ) → j < 4096 → home (getD (set label k w) j 0) ≡ b → Dec (j ≡ k) → In j (k ∷ a .keys)
+        sort : (j : ℕ) → j < keyLimit → home (getD (set label k w) j 0) ≡ b → Dec (j ≡ k) → In j (k ∷ a .keys)
         sort j l g (yes u) = inl u
         sort j l g (no u) = inr (a .into j l (rw (old j u) at g) u)
     go (no f) = record {
@@ -264,13 +268,13 @@ pushed-chains link label k w n h m c b lo hi = go (ℕ-discrete b at)
       into = λ j l g z. sort j l g (ℕ-discrete j k);
     }
       where
-        sort : (j : ℕ) → j < 4096 → home (getD (set label k w) j 0) ≡ b → Dec (j ≡ k) → In j (a .keys)
+        sort : (j : ℕ) → j < keyLimit → home (getD (set label k w) j 0) ≡ b → Dec (j ≡ k) → In j (a .keys)
         sort j l g (yes u) = absurd (f (sym g ∙ ap home (ap (λ (q : ℕ). getD (set label k w) q 0) u ∙ new)))
         sort j l g (no u) = a .into j l (rw (old j u) at g) u
 
 -- a key gets another label
-pub relinked-chains : (link label : List ℕ) (k w : ℕ) → 8190 ≤ length link → k < 4096 → k < length label → Chains link label 4096
-    → Chains (relinked link label k w) (set label k w) 4096
+pub relinked-chains : (link label : List ℕ) (k w : ℕ) → linkLength ≤ length link → k < keyLimit → k < length label → Chains link label keyLimit
+    → Chains (relinked link label k w) (set label k w) keyLimit
 unfolding relinked
 relinked-chains link label k w n h m c = let t = taken-chains link label k n h c in
     pushed-chains (taken link label k) label k w (omega (arith, t .1)) h m (t .0)
@@ -279,18 +283,18 @@ relinked-chains link label k w n h m c = let t = taken-chains link label k n h c
 unfoldable pub longer : List ℕ → ℕ → ℕ → Bool
 longer link zero x = true
 longer link (suc m) zero = false
-longer link (suc m) (suc k) = longer link m (getD link (k % 4096) 0)
+longer link (suc m) (suc k) = longer link m (getD link (k % keyLimit) 0)
 
-pub longer-yes : (link : List ℕ) (m x : ℕ) (xs : List ℕ) → Linked link x xs → ((k : ℕ) → In k xs → k < 4096) → m ≤ length xs → longer link m x ≡ true
+pub longer-yes : (link : List ℕ) (m x : ℕ) (xs : List ℕ) → Linked link x xs → ((k : ℕ) → In k xs → k < keyLimit) → m ≤ length xs → longer link m x ≡ true
 unfolding longer
 longer-yes link zero x xs l b h = refl
 longer-yes link (suc m) x xs end b h = absurd (omega arith)
 longer-yes link (suc m) x xs (one {k = k} {xs = ys} l) b h =
-    let e : k % 4096 ≡ k = mod-eq-of-lt (b k (inl refl)) in rw e (longer-yes link m (getD link k 0) ys l (λ j i. b j (inr i)) (omega arith))
+    let e : k % keyLimit ≡ k = mod-eq-of-lt (b k (inl refl)) in rw e (longer-yes link m (getD link k 0) ys l (λ j i. b j (inr i)) (omega arith))
 
-pub longer-no : (link : List ℕ) (m x : ℕ) (xs : List ℕ) → Linked link x xs → ((k : ℕ) → In k xs → k < 4096) → length xs < m → longer link m x ≡ false
+pub longer-no : (link : List ℕ) (m x : ℕ) (xs : List ℕ) → Linked link x xs → ((k : ℕ) → In k xs → k < keyLimit) → length xs < m → longer link m x ≡ false
 unfolding longer
 longer-no link zero x xs l b h = absurd (omega arith)
 longer-no link (suc m) x xs end b h = refl
 longer-no link (suc m) x xs (one {k = k} {xs = ys} l) b h =
-    let e : k % 4096 ≡ k = mod-eq-of-lt (b k (inl refl)) in rw e (longer-no link m (getD link k 0) ys l (λ j i. b j (inr i)) (omega arith))
+    let e : k % keyLimit ≡ k = mod-eq-of-lt (b k (inl refl)) in rw e (longer-no link m (getD link k 0) ys l (λ j i. b j (inr i)) (omega arith))

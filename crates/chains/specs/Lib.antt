@@ -1,2 +1,2 @@
 pub mod Chains
-pub mod Opening
+pub mod FreeChain

@@ -1,4 +1,4 @@
--- Document 01, 'Paths and keys': the table of candidates, for a question and one stored term.
+-- SCOPE.md, 'Paths and keys': the table of candidates, for a question and one stored term.
 use Prim.Native.Nat.{ℕ}
 use mathlib.Core.List.{List}
 use mathlib.Core.Bool.{Bool, true, false}
@@ -6,9 +6,10 @@ use lib.Dec.{leb, eqb}
 use Rattle.laws.specs.Choice.{pick}
 use Rattle.keys.specs.Keys.{Tm, Args, node, nil, cons}
 use Rattle.definitions.specs.Trees.{treeOf}
+use Rattle.laws.specs.Sizes.{variableBase}
 
 abbrev pub isVariable : ℕ → Bool
-isVariable x = leb 32768 x
+isVariable x = leb variableBase x
 
 -- the question's term first; qv: a variable of the question agrees with any term; tv: one of the stored term does
 unfoldable mutual
@@ -30,8 +31,8 @@ opens r = pick (eqb r 2) true (eqb r 4)
 abbrev pub stars : ℕ → Bool
 stars r = pick (eqb r 3) true (eqb r 4)
 
--- does the stored term t stay a candidate for the question q in relation r, 0 to 4; a number above 4 is refused before (3, RELATION)
--- and nothing is asked here
+-- does the stored term t stay a candidate for the question q in relation r, 0 to 4; a number above 4 is refused
+-- before (3, RELATION) and nothing is asked here
 unfoldable pub candidate : ℕ → Tm → Tm → Bool
 candidate r q t = agree (opens r) (stars r) q t
 

@@ -1,5 +1,5 @@
--- Document 01, 'The relations themselves' and 'The solver's record': functions that decide the five relations and compute the
--- record, proved against their definitions: matching and Robinson's method.
+-- SCOPE.md, 'The relations themselves' and 'The solver's record': functions that decide the five relations and
+-- compute the record, proved against their definitions: matching and Robinson's method.
 use Prim.Native.Nat.{ℕ, zero, suc}
 use native.Mathlib.Decide.{ℕ-discrete}
 use native.Mathlib.Omega.{arith}
@@ -10,13 +10,14 @@ use mathlib.Core.List.{List, [], _∷_}
 use Rattle.terms.specs.Terms.{refusal, sigRefusal}
 use Rattle.theory.specs.Flat.{Item}
 use Rattle.theory.specs.Unify.{Bind, full}
-use Rattle.theory.specs.Items.{arity, items, shift, shift-terms, Fine}
-use Rattle.theory.specs.Checked.{fine}
+use Rattle.theory.specs.Items.{items, shift, shift-terms, Fine}
+use Rattle.theory.specs.CheckedItems.{fine}
 use Rattle.theory.specs.Relations.{Decided, decided-yes, decided-no, Unifies, Unifiable}
 use Rattle.theory.specs.Solver.{solution, Solution, solution-right}
 use Rattle.theory.specs.Matcher.{matcher, bound, named, turns-right, renames-right}
 use Rattle.definitions.specs.Relations.{Stands}
 use Rattle.definitions.specs.Records.{recordOf, IsRecord, one-record}
+use Rattle.terms.specs.Terms.{arity}
 
 -- the same bytes
 unfoldable pub same? : (s t : List ℕ) → Dec (s ≡ t)
@@ -59,13 +60,16 @@ unifies-right ar s t (some B) h = decided-yes (record { by = full B; sub = h .1 
 unifies-right ar s t none h = decided-no (λ u. h (u .by) (u .sub) (u .same))
 
 -- the decision is right
-pub stands-right : (sig : List ℕ) (r : ℕ) (t q : List ℕ) → sigRefusal sig ≡ 0 → refusal sig t ≡ 0 → refusal sig q ≡ 0 → Decided (stands sig r t q) (Stands sig r t q)
+pub stands-fine : (sig : List ℕ) (r : ℕ) (t q : List ℕ) → Fine sig t → Fine sig q → Decided (stands sig r t q) (Stands sig r t q)
 unfolding stands
-stands-right sig zero t q s a b = answer-right (same? t q)
-stands-right sig (suc zero) t q s a b = renames-right (arity sig) (items q) (items t) (fine sig q s b .term) (fine sig t s a .term)
-stands-right sig (suc (suc zero)) t q s a b = turns-right (arity sig) (items q) (items t) (fine sig q s b .term) (fine sig t s a .term)
-stands-right sig (suc (suc (suc zero))) t q s a b = turns-right (arity sig) (items t) (items q) (fine sig t s a .term) (fine sig q s b .term)
-stands-right sig (suc (suc (suc (suc r)))) t q s a b = unifies-right (arity sig) (items t) (shift 32 (items q)) (bindings? sig t q) (bindings-right sig t q (fine sig t s a) (fine sig q s b))
+stands-fine sig zero t q a b = answer-right (same? t q)
+stands-fine sig (suc zero) t q a b = renames-right (arity sig) (items q) (items t) (b .term) (a .term)
+stands-fine sig (suc (suc zero)) t q a b = turns-right (arity sig) (items q) (items t) (b .term) (a .term)
+stands-fine sig (suc (suc (suc zero))) t q a b = turns-right (arity sig) (items t) (items q) (a .term) (b .term)
+stands-fine sig (suc (suc (suc (suc r)))) t q a b = unifies-right (arity sig) (items t) (shift 32 (items q)) (bindings? sig t q) (bindings-right sig t q a b)
+
+pub stands-right : (sig : List ℕ) (r : ℕ) (t q : List ℕ) → sigRefusal sig ≡ 0 → refusal sig t ≡ 0 → refusal sig q ≡ 0 → Decided (stands sig r t q) (Stands sig r t q)
+stands-right sig r t q s a b = stands-fine sig r t q (fine sig t s a) (fine sig q s b)
 
 -- the record of a stored term and a question, where they unify
 abbrev pub recorded : Option (List Bind) → Option (List ℕ)

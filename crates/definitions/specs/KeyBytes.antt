@@ -1,5 +1,5 @@
--- Document 01, 'Paths and keys': a key as bytes, 'steps of three bytes (symbol item, argument number) and then two bytes, a symbol or
--- 0xFFFF for the star'. In a Key arguments are numbered from 0 and the star is 256.
+-- SCOPE.md, 'Paths and keys': a key as bytes, 'steps of three bytes (symbol item, argument number) and then two
+-- bytes, a symbol or 0xFFFF for the star'. In a Key arguments are numbered from 0 and the star is 256.
 use Prim.Native.Nat.{ℕ, suc, _+_, _-_, _*_, _/_, _%_, _≤_, _<_}
 use mathlib.Core.Path.{_≡_, refl, sym, ap, _∙_}
 use mathlib.Core.Logic.{_⊎_, inl, inr, ⊎-elim}
@@ -17,6 +17,7 @@ use Rattle.keys.specs.Bytes.{stepGood, endGood, stepsGood, isKey}
 use Rattle.terms.specs.Terms.{Signed, refusal}
 use Rattle.definitions.specs.Trees.{countArgs, itemsT, IsSymbol, Variable, Shaped, Shapes, treeOf, keysOf}
 use Rattle.definitions.specs.Spelt.{end-variable, end-symbol, clash, taken, tree-shaped, term-tree, term-tree-is, size-items}
+use Rattle.terms.specs.Terms.{arity}
 
 unfoldable pub placeBytes : Place → List ℕ
 placeBytes root = []
@@ -105,7 +106,7 @@ module _ (sig : List ℕ) (g : Signed sig) where
     where
       again : stepGood sig (h * 256 + l) i ≡ true → (h * 256 + l) / 256 ∷ (h * 256 + l) % 256 ∷ suc (i - 1) ∷ r ≡ h ∷ l ∷ i ∷ r
       again z =
-          let y = taken (ltb (h * 256 + l) (length sig)) (pick (eqb i 0) false (leb i (getD sig (h * 256 + l) 0))) z in
+          let y = taken (ltb (h * 256 + l) (length sig)) (pick (eqb i 0) false (leb i (arity sig (h * 256 + l)))) z in
           let n : i ≡ 0 → ⊥ = from (eqb i 0) refl (y .1) in
           let bh : h < 256 = b .0 in
           let bl : l < 256 = b .1 .0 in
@@ -114,7 +115,7 @@ module _ (sig : List ℕ) (g : Signed sig) where
           let e : suc (i - 1) ≡ i = omega arith in
           rw (a, d, e)
         where
-          from : (c : Bool) → eqb i 0 ≡ c → pick c false (leb i (getD sig (h * 256 + l) 0)) ≡ true → i ≡ 0 → ⊥
+          from : (c : Bool) → eqb i 0 ≡ c → pick c false (leb i (arity sig (h * 256 + l))) ≡ true → i ≡ 0 → ⊥
           from true e z q = clash z
           from false e z q = eqb-false i 0 e q
 
@@ -170,7 +171,7 @@ module _ (sig : List ℕ) (g : Signed sig) where
   -- what the steps and the end of a term's key are
   Declared : Place → Type 0
   Declared root = Unit {0}
-  Declared (step p f i) = Declared p × (f < length sig) × (i < getD sig f 0)
+  Declared (step p f i) = Declared p × (f < length sig) × (i < arity sig f)
 
   Good : Key → Type 0
   Good (key p e) = Declared p × ((e < length sig) ⊎ (e ≡ 256))
@@ -181,19 +182,19 @@ module _ (sig : List ℕ) (g : Signed sig) where
     keys-good : (p : Place) (u : Tm) → Declared p → Shaped sig u → (K : Key) → In K (keysT p u) → Good K
     keys-good p (node x us) d w K h = go (w .0) h (λ s l j. args-good p x 0 us d s (omega (arith, l)) (w .1) K j)
       where
-        go : (IsSymbol sig x × (countArgs us ≡ getD sig x 0)) ⊎ (Variable x × (countArgs us ≡ 0)) → (K ≡ key p (endOf x)) ⊎ In K (keysA p (endOf x) 0 us)
-            → (x < length sig → countArgs us ≡ getD sig x 0 → In K (keysA p x 0 us) → Good K) → Good K
+        go : (IsSymbol sig x × (countArgs us ≡ arity sig x)) ⊎ (Variable x × (countArgs us ≡ 0)) → (K ≡ key p (endOf x)) ⊎ In K (keysA p (endOf x) 0 us)
+            → (x < length sig → countArgs us ≡ arity sig x → In K (keysA p x 0 us) → Good K) → Good K
         go (inl s) h f = ⊎-elim (λ (z : K ≡ key p x). rw z (d, inl (s .0))) (λ j. f (s .0) (s .1) j) (rw (end-symbol x (omega (arith, s .0, g .short))) at h)
         go (inr s) h f = ⊎-elim (λ (z : K ≡ key p 256). rw z (d, inr refl)) (λ j. absurd (no-keys p 256 0 us K (s .1) j)) (rw (end-variable x (s .0 .0)) at h)
 
-    args-good : (p : Place) (f i : ℕ) (us : Args) → Declared p → f < length sig → i + countArgs us ≤ getD sig f 0 → Shapes sig us → (K : Key) → In K (keysA p f i us) → Good K
+    args-good : (p : Place) (f i : ℕ) (us : Args) → Declared p → f < length sig → i + countArgs us ≤ arity sig f → Shapes sig us → (K : Key) → In K (keysA p f i us) → Good K
     args-good p f i nil d s l w K h = absurd h
     args-good p f i (cons u us) d s l w K h = ⊎-elim (λ a. keys-good (step p f i) u (d, s, omega arith) (w .0) K a) (λ a. args-good p f (suc i) us d s (omega arith) (w .1) K a)
         (in-append K (keysT (step p f i) u) (keysA p f (suc i) us) h)
 
-  step-good : (f i : ℕ) → f < length sig → i < getD sig f 0 → stepGood sig f (suc i) ≡ true
+  step-good : (f i : ℕ) → f < length sig → i < arity sig f → stepGood sig f (suc i) ≡ true
   unfolding stepGood
-  step-good f i a b = rw (lt-ltb f (length sig) a, ne-eqb (suc i) 0 (λ z. omega arith), le-leb (suc i) (getD sig f 0) b)
+  step-good f i a b = rw (lt-ltb f (length sig) a, ne-eqb (suc i) 0 (λ z. omega arith), le-leb (suc i) (arity sig f) b)
 
   place-good : (p : Place) (r : List ℕ) → Declared p → stepsGood sig r ≡ true → stepsGood sig (placeBytes p ++ r) ≡ true
   unfolding placeBytes stepsGood Declared
@@ -223,7 +224,8 @@ module _ (sig : List ℕ) (g : Signed sig) where
         (declared-fits p (d .0), ⊎-elim (λ h. omega (arith, h, g .short)) (λ h. omega (arith, h)) (d .1)),
       )
 
-  -- 'As bytes a key is 0 to 31 steps of three bytes and then two bytes': each key of a checked term is such bytes, and is read back from them
+  -- 'As bytes a key is 0 to 31 steps of three bytes and then two bytes': each key of a checked term is such bytes,
+  -- and is read back from them
   pub term-keys : (t : List ℕ) → refusal sig t ≡ 0 → (K : Key) → In K (keysOf sig t) → (isKey sig (keyBytes K) ≡ true) × (keyOf (keyBytes K) ≡ K)
   unfolding keysOf Declared steps
   term-keys t h K i =

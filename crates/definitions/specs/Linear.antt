@@ -1,5 +1,5 @@
--- Document 01, 'The relations themselves': no answer is missed by the candidates, and 'Where q and t have no repeated variable,
--- candidate and answer agree for relations 1 to 4'.
+-- SCOPE.md, 'The relations themselves': no answer is missed by the candidates, and 'Where q and t have no repeated
+-- variable, candidate and answer agree for relations 1 to 4'.
 use Prim.Native.Nat.{ℕ, zero, suc, _+_, _-_, _≤_, _<_}
 use mathlib.Core.Path.{_≡_, refl, sym, ap, _∙_}
 use mathlib.Core.Logic.{_⊎_, inl, inr, _↔_, ⊎-elim}
@@ -13,8 +13,8 @@ use Rattle.laws.specs.Members.{NoDup}
 use Rattle.laws.specs.Members as Members
 use Rattle.terms.specs.Terms.{numbers, Signed, refusal}
 use Rattle.theory.specs.Flat.{Item}
-use Rattle.theory.specs.Subst.{vars, app, app-vars, In, Sub}
-use Rattle.theory.specs.Items.{items16, items, arity, shift, codes-numbers}
+use Rattle.theory.specs.Subst.{vars, app, app-vars, Occurs, Sub}
+use Rattle.theory.specs.Items.{items16, items, shift, codes-numbers}
 use Rattle.theory.specs.Relations.{Instance, Variant, Unifiable}
 use Rattle.definitions.specs.Trees.{treeOf}
 use Rattle.definitions.specs.Relations.{Stands}
@@ -23,6 +23,8 @@ use Rattle.definitions.specs.Candidates.{isVariable, agree, candidate, i
 use Rattle.definitions.specs.Spelt.{clash, tree-shaped, tree-spells}
 use Rattle.definitions.specs.LinearFlat.{Cand, done, Lin, lin-instance, lin-variant, lin-unify, cand-shift, lin-shift, shift-apart, Below}
 use Rattle.definitions.specs.LinearTrees.{flat, agree-cand, same-agree, flat-below, agree-swap, app-shift}
+use Rattle.laws.specs.Sizes.{variableBase}
+use Rattle.terms.specs.Terms.{arity}
 
 -- the variables of a list of items, as often as they stand
 unfoldable pub variables : List ℕ → List ℕ
@@ -55,39 +57,39 @@ once? (x ∷ l) = go (in? x l) (once? l)
 unfoldable pub linear? : (t : List ℕ) → Dec (Linear t)
 linear? t = once? (variables (numbers t))
 
--- f(x0,x1) repeats no variable, f(x0,x0) does (document 01's f, symbol 2)
+-- f(x0,x1) repeats no variable, f(x0,x0) does (SCOPE.md's f, symbol 2)
 linear-both : (answer (linear? (0 ∷ 2 ∷ 128 ∷ 0 ∷ 128 ∷ 1 ∷ [])) ≡ true) × (answer (linear? (0 ∷ 2 ∷ 128 ∷ 0 ∷ 128 ∷ 0 ∷ [])) ≡ false)
 unfolding linear? once? in? variables numbers ℕ-discrete
 linear-both = (refl, refl)
 
 -- the same of items
-in-variables : (y : ℕ) (xs : List ℕ) → In y (items16 xs) → Members.In (32768 + y) (variables xs)
+in-variables : (y : ℕ) (xs : List ℕ) → Occurs y (items16 xs) → Members.In (variableBase + y) (variables xs)
 unfolding variables
 in-variables y [] h = absurd h
-in-variables y (x ∷ xs) h = go (decLe 32768 x) (in-variables y xs)
+in-variables y (x ∷ xs) h = go (decLe variableBase x) (in-variables y xs)
   where
-    move : 32768 ≤ x → (In y (items16 xs) → Members.In (32768 + y) (variables xs)) → (y ≡ x - 32768) ⊎ In y (items16 xs) → Members.In (32768 + y) (x ∷ variables xs)
+    move : variableBase ≤ x → (Occurs y (items16 xs) → Members.In (variableBase + y) (variables xs)) → (y ≡ x - variableBase) ⊎ Occurs y (items16 xs) → Members.In (variableBase + y) (x ∷ variables xs)
     move v f (inl e) = inl (omega arith)
     move v f (inr i) = inr (f i)
 
-    go : Dec (32768 ≤ x) → (In y (items16 xs) → Members.In (32768 + y) (variables xs)) → Members.In (32768 + y) (pick (isVariable x) (x ∷ variables xs) (variables xs))
-    go (yes v) f = rw (le-leb 32768 x v) (move v f (rw (le-ltb x 32768 v) at h))
-    go (no v) f = let l : x < 32768 = omega arith in rw (lt-leb 32768 x l) (f (rw (lt-ltb x 32768 l) at h))
+    go : Dec (variableBase ≤ x) → (Occurs y (items16 xs) → Members.In (variableBase + y) (variables xs)) → Members.In (variableBase + y) (pick (isVariable x) (x ∷ variables xs) (variables xs))
+    go (yes v) f = rw (le-leb variableBase x v) (move v f (rw (le-ltb x variableBase v) at h))
+    go (no v) f = let l : x < variableBase = omega arith in rw (lt-leb variableBase x l) (f (rw (lt-ltb x variableBase l) at h))
 
 lin-items : (xs : List ℕ) → NoDup (variables xs) → Lin (items16 xs)
 unfolding variables
 lin-items [] h = tt
-lin-items (x ∷ xs) h = go (decLe 32768 x) (lin-items xs)
+lin-items (x ∷ xs) h = go (decLe variableBase x) (lin-items xs)
   where
-    go : Dec (32768 ≤ x) → (NoDup (variables xs) → Lin (items16 xs)) → Lin (items16 (x ∷ xs))
+    go : Dec (variableBase ≤ x) → (NoDup (variables xs) → Lin (items16 xs)) → Lin (items16 (x ∷ xs))
     go (yes v) f =
-        let n : NoDup (x ∷ variables xs) = rw (le-leb 32768 x v) at h in
-        let e : 32768 + (x - 32768) ≡ x = omega arith in
-        rw (le-ltb x 32768 v) ((λ i. n .0 (rw e at (in-variables (x - 32768) xs i))), f (n .1))
+        let n : NoDup (x ∷ variables xs) = rw (le-leb variableBase x v) at h in
+        let e : variableBase + (x - variableBase) ≡ x = omega arith in
+        rw (le-ltb x variableBase v) ((λ i. n .0 (rw e at (in-variables (x - variableBase) xs i))), f (n .1))
     go (no v) f =
-        let l : x < 32768 = omega arith in
-        let n : NoDup (variables xs) = rw (lt-leb 32768 x l) at h in
-        rw (lt-ltb x 32768 l) (f n)
+        let l : x < variableBase = omega arith in
+        let n : NoDup (variables xs) = rw (lt-leb variableBase x l) at h in
+        rw (lt-ltb x variableBase l) (f n)
 
 module _ (sig : List ℕ) (g : Signed sig) where
   items-flat : (t : List ℕ) → refusal sig t ≡ 0 → items t ≡ flat (treeOf sig t)

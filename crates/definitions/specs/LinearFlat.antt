@@ -1,5 +1,5 @@
 -- Candidates on flat lists of items: where no variable stands twice, a candidate is an answer.
--- A device of Linear's proof (document 01, 'The relations themselves').
+-- A device of Linear's proof (SCOPE.md, 'The relations themselves').
 use mathlib.Core.Path.{_≡_, refl, sym, ap, _∙_}
 use mathlib.Core.Logic.{inl, inr, _≢_}
 use mathlib.Core.Bool.{Bool, true, false}
@@ -9,7 +9,7 @@ use native.Mathlib.Omega.{arith}
 use native.Mathlib.Decide.{ℕ-discrete}
 use lib.Dec.{T}
 use Rattle.theory.specs.Flat.{Item, sy, va, Terms}
-use Rattle.theory.specs.Subst.{vars, app, app-append, app-vars, In, in-left, in-right, app-agree, Sub}
+use Rattle.theory.specs.Subst.{vars, app, app-append, app-vars, Occurs, in-left, in-right, app-agree, Sub}
 use Rattle.theory.specs.Unify.{pick}
 use Rattle.theory.specs.Items.{shift, shift-terms}
 use Rattle.theory.specs.Relations.{Turns, Renames}
@@ -19,21 +19,23 @@ pub data Cand (ar : ℕ → ℕ) (qv tv : Bool) : ℕ → List Item → List Ite
   done : Cand ar qv tv zero [] []
   both : {k x y : ℕ} {l m : List Item} → Cand ar qv tv k l m → Cand ar qv tv (suc k) (va x ∷ l) (va y ∷ m)
   symb : {k : ℕ} (s : ℕ) {l m : List Item} → Cand ar qv tv (ar s + k) l m → Cand ar qv tv (suc k) (sy s ∷ l) (sy s ∷ m)
-  qvar : {k x : ℕ} {l m : List Item} (u : List Item) → T qv → Terms ar 1 u → Cand ar qv tv k l m → Cand ar qv tv (suc k) (va x ∷ l) (u ++ m)
-  tvar : {k y : ℕ} {l m : List Item} (u : List Item) → T tv → Terms ar 1 u → Cand ar qv tv k l m → Cand ar qv tv (suc k) (u ++ l) (va y ∷ m)
+  qvar : {k x : ℕ} {l m : List Item} (u : List Item) → T qv → Terms ar 1 u → Cand ar qv tv k l m
+      → Cand ar qv tv (suc k) (va x ∷ l) (u ++ m)
+  tvar : {k y : ℕ} {l m : List Item} (u : List Item) → T tv → Terms ar 1 u → Cand ar qv tv k l m
+      → Cand ar qv tv (suc k) (u ++ l) (va y ∷ m)
 
 -- no variable stands twice
 abbrev pub Lin : List Item → Type 0
 Lin [] = Unit {0}
 Lin (sy s ∷ l) = Lin l
-Lin (va x ∷ l) = (¬ In x l) × Lin l
+Lin (va x ∷ l) = (¬ Occurs x l) × Lin l
 
 pub lin-right : (u m : List Item) → Lin (u ++ m) → Lin m
 lin-right [] m h = h
 lin-right (sy s ∷ u) m h = lin-right u m h
 lin-right (va x ∷ u) m h = lin-right u m (h .1)
 
-pub lin-apart : (u m : List Item) → Lin (u ++ m) → (x : ℕ) → In x u → In x m → ⊥
+pub lin-apart : (u m : List Item) → Lin (u ++ m) → (x : ℕ) → Occurs x u → Occurs x m → ⊥
 lin-apart [] m h x i j = i
 lin-apart (sy s ∷ u) m h x i j = lin-apart u m h x i j
 lin-apart (va y ∷ u) m h x (inl e) j = h .0 (in-right y u m (rw e at j))
@@ -57,7 +59,7 @@ put-other x u σ y h = go (ℕ-discrete x y)
     go (yes e) = absurd (h e)
     go (no f) = refl
 
-app-put : (x : ℕ) (u : List Item) (σ : ℕ → List Item) (l : List Item) → ¬ In x l → app (put x u σ) l ≡ app σ l
+app-put : (x : ℕ) (u : List Item) (σ : ℕ → List Item) (l : List Item) → ¬ Occurs x l → app (put x u σ) l ≡ app σ l
 app-put x u σ l h = app-agree (put x u σ) σ l (λ y i. put-other x u σ y (λ e. h (rw e i)))
 
 module _ (ar : ℕ → ℕ) where
@@ -83,11 +85,11 @@ module _ (ar : ℕ → ℕ) where
     pub by : ℕ → List Item
     pub sub : Sub ar by
     pub same : app by l ≡ app by m
-    pub outside : (z : ℕ) → ¬ In z l → ¬ In z m → by z ≡ vars z
+    pub outside : (z : ℕ) → ¬ Occurs z l → ¬ Occurs z m → by z ≡ vars z
 
   -- one more variable x against u
-  lin-step : (x : ℕ) (u l m : List Item) → Terms ar 1 u → ¬ In x l → ¬ In x u → ¬ In x m
-      → ((y : ℕ) → In y u → (In y l → ⊥) × (In y m → ⊥)) → LinUnify l m → LinUnify (va x ∷ l) (u ++ m)
+  lin-step : (x : ℕ) (u l m : List Item) → Terms ar 1 u → ¬ Occurs x l → ¬ Occurs x u → ¬ Occurs x m
+      → ((y : ℕ) → Occurs y u → (Occurs y l → ⊥) × (Occurs y m → ⊥)) → LinUnify l m → LinUnify (va x ∷ l) (u ++ m)
   lin-step x u l m t a b c d h = record {
     by = put x u (h .by);
     sub = put-sub x u (h .by) t (h .sub);
@@ -101,7 +103,7 @@ module _ (ar : ℕ → ℕ) where
   lin-swap : (l m : List Item) → LinUnify l m → LinUnify m l
   lin-swap l m h = record { by = h .by; sub = h .sub; same = sym (h .same); outside = λ z i j. h .outside z j i }
 
-  pub lin-unify : (k : ℕ) (l m : List Item) → Cand ar true true k l m → Lin l → Lin m → ((z : ℕ) → In z l → In z m → ⊥) → LinUnify l m
+  pub lin-unify : (k : ℕ) (l m : List Item) → Cand ar true true k l m → Lin l → Lin m → ((z : ℕ) → Occurs z l → Occurs z m → ⊥) → LinUnify l m
   lin-unify k l m done n p a = record { by = vars; sub = λ x. tt; same = refl; outside = λ z i j. refl }
   lin-unify k l m (both {x = x} {y = y} {l = l′} {m = m′} c) n p a =
       lin-step x (vars y) l′ m′ tt (n .0) (λ i. a x (inl refl) (in-left x (vars y) m′ i)) (λ i. a x (inl refl) (inr i))
@@ -133,10 +135,10 @@ module _ (ar : ℕ → ℕ) where
       go (yes e) = refl
       go (no f) = absurd (f refl)
 
-  app-putn : (x u : ℕ) (ρ : ℕ → ℕ) (l : List Item) → ¬ In x l → app (ren (putn x u ρ)) l ≡ app (ren ρ) l
+  app-putn : (x u : ℕ) (ρ : ℕ → ℕ) (l : List Item) → ¬ Occurs x l → app (ren (putn x u ρ)) l ≡ app (ren ρ) l
   app-putn x u ρ l h = app-agree (ren (putn x u ρ)) (ren ρ) l (λ y i. go y (ℕ-discrete x y) i)
     where
-      go : (y : ℕ) (d : Dec (x ≡ y)) → In y l → vars (pick d u (ρ y)) ≡ vars (ρ y)
+      go : (y : ℕ) (d : Dec (x ≡ y)) → Occurs y l → vars (pick d u (ρ y)) ≡ vars (ρ y)
       go y (yes e) i = absurd (h (rw e i))
       go y (no f) i = refl
 
@@ -162,7 +164,7 @@ module _ (ar : ℕ → ℕ) where
   cand-shift qv tv n k l m (tvar u q t c) = tvar u q t (cand-shift qv tv n _ _ _ c)
 
 -- shifted variables: no more often than before, and from n on
-pub in-shift : (n x : ℕ) (l : List Item) → In x (shift n l) → (y : ℕ) × (x ≡ n + y) × In y l
+pub in-shift : (n x : ℕ) (l : List Item) → Occurs x (shift n l) → (y : ℕ) × (x ≡ n + y) × Occurs y l
 in-shift n x [] h = absurd h
 in-shift n x (sy s ∷ l) h = in-shift n x l h
 in-shift n x (va y ∷ l) (inl e) = (y, e, inl refl)
@@ -175,7 +177,7 @@ lin-shift n (va x ∷ l) h = ((λ i. let r = in-shift n (n + x) l i in h .0 (let
 
 -- the variables of a list are below n
 abbrev pub Below : ℕ → List Item → Type 0
-Below n l = (x : ℕ) → In x l → x < n
+Below n l = (x : ℕ) → Occurs x l → x < n
 
-pub shift-apart : (n : ℕ) (l m : List Item) → Below n l → (z : ℕ) → In z l → In z (shift n m) → ⊥
+pub shift-apart : (n : ℕ) (l m : List Item) → Below n l → (z : ℕ) → Occurs z l → Occurs z (shift n m) → ⊥
 shift-apart n l m b z i j = let r = in-shift n z m j in omega (arith, b z i, r .1)

@@ -1,5 +1,5 @@
--- From trees to flat lists of items: candidates of trees are candidates of lists, and whatever substitutions make the same is a
--- candidate. Devices of Linear's proof (document 01, 'The relations themselves').
+-- From trees to flat lists of items: candidates of trees are candidates of lists, and whatever substitutions make the
+-- same is a candidate. Devices of Linear's proof (SCOPE.md, 'The relations themselves').
 use Prim.Native.Nat.{ℕ, suc, _+_, _-_, _<_}
 use mathlib.Core.Path.{_≡_, refl, sym, ap, _∙_}
 use mathlib.Core.Logic.{_⊎_, inl, inr}
@@ -14,12 +14,14 @@ use Rattle.laws.specs.Choice.{pick}
 use Rattle.keys.specs.Keys.{Tm, Args, node, nil, cons}
 use Rattle.terms.specs.Terms.{Signed}
 use Rattle.theory.specs.Flat.{Item, sy, va, Terms, terms-append, readable}
-use Rattle.theory.specs.Subst.{vars, app, app-append, Sub, app-terms, In, in-append}
-use Rattle.theory.specs.Items.{item16, items16, arity, shift}
+use Rattle.theory.specs.Subst.{vars, app, app-append, Sub, app-terms, Occurs, in-append}
+use Rattle.theory.specs.Items.{item16, items16, shift}
 use Rattle.definitions.specs.Trees.{countArgs, itemsT, itemsA, IsSymbol, Variable, Shaped, Shapes}
 use Rattle.definitions.specs.Candidates.{isVariable, agree, agreeAll}
 use Rattle.definitions.specs.Spelt.{clash}
 use Rattle.definitions.specs.LinearFlat.{Below, Cand, both, symb, qvar, tvar}
+use Rattle.laws.specs.Sizes.{variableBase}
+use Rattle.terms.specs.Terms.{arity}
 
 holds : (b : Bool) → b ≡ true → T b
 holds true h = tt
@@ -59,15 +61,15 @@ module _ (sig : List ℕ) (g : Signed sig) where
 
   -- a tree is a variable, or a symbol with its arguments
   abbrev View : ℕ → Args → Type 0
-  View x us = ((isVariable x ≡ true) × (flat (node x us) ≡ vars (x - 32768))) ⊎ ((isVariable x ≡ false) × (flat (node x us) ≡ sy x ∷ flats us) × (countArgs us ≡ ar x))
+  View x us = ((isVariable x ≡ true) × (flat (node x us) ≡ vars (x - variableBase))) ⊎ ((isVariable x ≡ false) × (flat (node x us) ≡ sy x ∷ flats us) × (countArgs us ≡ ar x))
 
   view : (x : ℕ) (us : Args) → Shaped sig (node x us) → View x us
   unfolding Shaped
   view x us w = go (w .0)
     where
-      go : (IsSymbol sig x × (countArgs us ≡ getD sig x 0)) ⊎ (Variable x × (countArgs us ≡ 0)) → View x us
-      go (inl h) = let l : x < 32768 = omega (arith, h .0, g .short) in inr (lt-leb 32768 x l, flat-node x us ∙ rw (lt-ltb x 32768 l), h .1)
-      go (inr h) = inl (le-leb 32768 x (h .0 .0), flat-node x us ∙ ap {B = List Item} (λ r. item16 x ∷ r) (bare us (h .1)) ∙ rw (le-ltb x 32768 (h .0 .0)))
+      go : (IsSymbol sig x × (countArgs us ≡ arity sig x)) ⊎ (Variable x × (countArgs us ≡ 0)) → View x us
+      go (inl h) = let l : x < variableBase = omega (arith, h .0, g .short) in inr (lt-leb variableBase x l, flat-node x us ∙ rw (lt-ltb x variableBase l), h .1)
+      go (inr h) = inl (le-leb variableBase x (h .0 .0), flat-node x us ∙ ap {B = List Item} (λ r. item16 x ∷ r) (bare us (h .1)) ∙ rw (le-ltb x variableBase (h .0 .0)))
 
   mutual
     unfolding Shaped countArgs
@@ -149,19 +151,19 @@ module _ (sig : List ℕ) (g : Signed sig) where
                 → (countArgs us ≡ countArgs vs → app σ (flats us ++ l) ≡ app τ (flats vs ++ m) → (agreeAll qv tv us vs ≡ true) × (app σ l ≡ app τ m))
                 → (pick (isVariable x) (pick (isVariable y) true qv) (pick (isVariable y) tv (pick (eqb x y) (agreeAll qv tv us vs) false)) ≡ true) × (app σ l ≡ app τ m)
             go (inl h) (inl i) e f =
-                let d : σ (x - 32768) ++ app σ l ≡ τ (y - 32768) ++ app τ m = rw (h .1, i .1) at e in
-                (rw (h .0, i .0), readable ar 1 (σ (x - 32768)) (τ (y - 32768)) (app σ l) (app τ m) (σ-sub (x - 32768)) (τ-sub (y - 32768)) d .1)
+                let d : σ (x - variableBase) ++ app σ l ≡ τ (y - variableBase) ++ app τ m = rw (h .1, i .1) at e in
+                (rw (h .0, i .0), readable ar 1 (σ (x - variableBase)) (τ (y - variableBase)) (app σ l) (app τ m) (σ-sub (x - variableBase)) (τ-sub (y - variableBase)) d .1)
             go (inl h) (inr i) e f =
-                let d : σ (x - 32768) ++ app σ l ≡ app τ (flat (node y vs)) ++ app τ m = rw (h .1, app-append τ (flat (node y vs)) m) at e in
-                let s : σ (x - 32768) ++ app σ l ≡ sy y ∷ app τ (flats vs ++ m) = rw (h .1, i .1) at e in (
-                  rw (h .0, i .0) (left-open qv refl (x - 32768) y (app σ l) (app τ (flats vs ++ m)) s),
-                  readable ar 1 (σ (x - 32768)) (app τ (flat (node y vs))) (app σ l) (app τ m) (σ-sub (x - 32768)) (app-terms ar τ τ-sub 1 (flat (node y vs)) (flat-terms (node y vs) v)) d .1,
+                let d : σ (x - variableBase) ++ app σ l ≡ app τ (flat (node y vs)) ++ app τ m = rw (h .1, app-append τ (flat (node y vs)) m) at e in
+                let s : σ (x - variableBase) ++ app σ l ≡ sy y ∷ app τ (flats vs ++ m) = rw (h .1, i .1) at e in (
+                  rw (h .0, i .0) (left-open qv refl (x - variableBase) y (app σ l) (app τ (flats vs ++ m)) s),
+                  readable ar 1 (σ (x - variableBase)) (app τ (flat (node y vs))) (app σ l) (app τ m) (σ-sub (x - variableBase)) (app-terms ar τ τ-sub 1 (flat (node y vs)) (flat-terms (node y vs) v)) d .1,
                 )
             go (inr h) (inl i) e f =
-                let d : app σ (flat (node x us)) ++ app σ l ≡ τ (y - 32768) ++ app τ m = rw (i .1, app-append σ (flat (node x us)) l) at e in
-                let s : sy x ∷ app σ (flats us ++ l) ≡ τ (y - 32768) ++ app τ m = rw (h .1, i .1) at e in (
-                  rw (h .0, i .0) (right-open tv refl x (y - 32768) (app σ (flats us ++ l)) (app τ m) s),
-                  readable ar 1 (app σ (flat (node x us))) (τ (y - 32768)) (app σ l) (app τ m) (app-terms ar σ σ-sub 1 (flat (node x us)) (flat-terms (node x us) w)) (τ-sub (y - 32768)) d .1,
+                let d : app σ (flat (node x us)) ++ app σ l ≡ τ (y - variableBase) ++ app τ m = rw (i .1, app-append σ (flat (node x us)) l) at e in
+                let s : sy x ∷ app σ (flats us ++ l) ≡ τ (y - variableBase) ++ app τ m = rw (h .1, i .1) at e in (
+                  rw (h .0, i .0) (right-open tv refl x (y - variableBase) (app σ (flats us ++ l)) (app τ m) s),
+                  readable ar 1 (app σ (flat (node x us))) (τ (y - variableBase)) (app σ l) (app τ m) (app-terms ar σ σ-sub 1 (flat (node x us)) (flat-terms (node x us) w)) (τ-sub (y - variableBase)) d .1,
                 )
             go (inr h) (inr i) e f =
                 let s : sy x ∷ app σ (flats us ++ l) ≡ sy y ∷ app τ (flats vs ++ m) = rw (h .1, i .1) at e in
@@ -187,12 +189,12 @@ module _ (sig : List ℕ) (g : Signed sig) where
     pub flat-below : (u : Tm) → Shaped sig u → Below 32 (flat u)
     flat-below (node x us) w z i = go (w .0) (view x us w) (λ j. flats-below us (w .1) z j)
       where
-        one : Variable x → In z (vars (x - 32768)) → z < 32
+        one : Variable x → Occurs z (vars (x - variableBase)) → z < 32
         one v (inl e) = omega (arith, e, v .0, v .1)
         one v (inr e) = absurd e
 
-        go : (IsSymbol sig x × (countArgs us ≡ getD sig x 0)) ⊎ (Variable x × (countArgs us ≡ 0)) → View x us → (In z (flats us) → z < 32) → z < 32
-        go (inl h) (inl v) f = absurd (omega (arith, h .0, g .short, leb-true 32768 x (v .0)))
+        go : (IsSymbol sig x × (countArgs us ≡ arity sig x)) ⊎ (Variable x × (countArgs us ≡ 0)) → View x us → (Occurs z (flats us) → z < 32) → z < 32
+        go (inl h) (inl v) f = absurd (omega (arith, h .0, g .short, leb-true variableBase x (v .0)))
         go (inl h) (inr v) f = f (rw (v .1) at i)
         go (inr h) (inl v) f = one (h .0) (rw (v .1) at i)
         go (inr h) (inr v) f = f (rw (v .1) at i)
@@ -201,7 +203,7 @@ module _ (sig : List ℕ) (g : Signed sig) where
     flats-below nil w z i = absurd (rw flats-nil at i)
     flats-below (cons u us) w z i = go (in-append z (flat u) (flats us) (rw (flats-cons u us) at i)) (λ j. flat-below u (w .0) z j) (λ j. flats-below us (w .1) z j)
       where
-        go : In z (flat u) ⊎ In z (flats us) → (In z (flat u) → z < 32) → (In z (flats us) → z < 32) → z < 32
+        go : Occurs z (flat u) ⊎ Occurs z (flats us) → (Occurs z (flat u) → z < 32) → (Occurs z (flats us) → z < 32) → z < 32
         go (inl h) f k = f h
         go (inr h) f k = k h
 

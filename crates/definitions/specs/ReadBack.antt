@@ -1,5 +1,5 @@
--- A record read back: the substitution that its bytes spell makes the two terms the same, and has the other properties that
--- document 01 asks ('The solver's record').
+-- A record read back: the substitution that its bytes spell makes the two terms the same, and has the other
+-- properties that SCOPE.md asks ('The solver's record').
 use Prim.Native.Nat.{ℕ, zero, suc, _+_, _-_, _*_, _/_, _%_, _≤_, _<_}
 use native.Mathlib.Decide.{ℕ-discrete, decLe}
 use native.Mathlib.Nat.{zero-add}
@@ -14,15 +14,17 @@ use lib.Seq.{take-at, drop-at}
 use borrow.Author.Tests.{lt-ltb, le-ltb}
 use Rattle.laws.specs.Choice.{pick}
 use Rattle.theory.specs.Flat.{Item, sy, va, Terms}
-use Rattle.theory.specs.Subst.{vars, In, in?}
+use Rattle.theory.specs.Subst.{vars, Occurs, in?}
 use Rattle.theory.specs.Unify.{Bind, _:=_, Has, Unbound}
 use Rattle.theory.specs.Canon.{Least, Most, mgu-most, most-same}
-use Rattle.theory.specs.Items.{item16, items16, number, number-item, arity, moved-none, codes, length-codes, codes-at, items, shift, Fine}
+use Rattle.theory.specs.Items.{item16, items16, number, number-item, moved-none, codes, length-codes, codes-at, items, shift, Fine}
 use Rattle.theory.specs.Match.{once}
 use Rattle.theory.specs.Solver.{once-cases}
 use Rattle.theory.specs.Matcher.{items?}
 use Rattle.theory.specs.Fresh.{stays, absent, changed-occurs, kept}
 use Rattle.definitions.specs.Records.{Unifier, unless, listedFrom, listed, bytes, fieldBytes, written, recordOf, countOf, Short}
+use Rattle.laws.specs.Sizes.{variableBase, variableEnd}
+use Rattle.terms.specs.Terms.{arity}
 
 -- the items of a field: a variable, and its value
 abbrev pub fieldRead : List Item → List Bind → List Bind
@@ -36,7 +38,8 @@ readFrom zero w = []
 readFrom (suc k) [] = []
 readFrom (suc k) (tag ∷ []) = []
 readFrom (suc k) (tag ∷ h ∷ []) = []
-readFrom (suc k) (tag ∷ h ∷ l ∷ w) = pick (eqb tag 16) (fieldRead (items (take (h * 256 + l) w)) (readFrom k (drop (h * 256 + l) w))) []
+readFrom (suc k) (tag ∷ h ∷ l ∷ w) = pick (eqb tag 16)
+    (fieldRead (items (take (h * 256 + l) w)) (readFrom k (drop (h * 256 + l) w))) []
 
 unfoldable pub readFields : List ℕ → List Bind
 readFields w = readFrom (length w) w
@@ -46,7 +49,7 @@ abbrev code : Item → Item
 code i = item16 (number i)
 
 code-var : (x : ℕ) → code (va x) ≡ va x
-code-var x = let b : 32768 ≤ 32768 + x = omega arith in let e : 32768 + x - 32768 ≡ x = omega arith in rw (le-ltb (32768 + x) 32768 b, e)
+code-var x = let b : variableBase ≤ variableBase + x = omega arith in let e : variableBase + x - variableBase ≡ x = omega arith in rw (le-ltb (variableBase + x) variableBase b, e)
 
 items-bytes : (l : List Item) → items (bytes l) ≡ map code l
 unfolding bytes codes
@@ -150,11 +153,11 @@ code-terms sig b zero [] p = p
 code-terms sig b zero (i ∷ l) p = absurd p
 code-terms sig b (suc k) [] p = absurd p
 code-terms sig b (suc k) (va x ∷ l) p = rw (code-var x) (code-terms sig b k l p)
-code-terms sig b (suc k) (sy f ∷ l) p = go (decLe 32768 f) (code-terms sig b (arity sig f + k) l p)
+code-terms sig b (suc k) (sy f ∷ l) p = go (decLe variableBase f) (code-terms sig b (arity sig f + k) l p)
   where
-    go : Dec (32768 ≤ f) → Terms (arity sig) (arity sig f + k) (map code l) → Terms (arity sig) (suc k) (code (sy f) ∷ map code l)
-    go (yes v) q = let z : getD sig f 0 ≡ 0 = List·getD-eq-default sig 0 (omega arith) in rw (le-ltb f 32768 v) (rw (z, zero-add) at q)
-    go (no v) q = let c : f < 32768 = omega arith in rw (lt-ltb f 32768 c) q
+    go : Dec (variableBase ≤ f) → Terms (arity sig) (arity sig f + k) (map code l) → Terms (arity sig) (suc k) (code (sy f) ∷ map code l)
+    go (yes v) q = let z : arity sig f ≡ 0 = List·getD-eq-default sig 0 (omega arith) in rw (le-ltb f variableBase v) (rw (z, zero-add) at q)
+    go (no v) q = let c : f < variableBase = omega arith in rw (lt-ltb f variableBase c) q
 
 code-items : (cs : List ℕ) → map code (items16 cs) ≡ items16 cs
 code-items [] = refl
@@ -165,28 +168,29 @@ code-shift n [] e = refl
 code-shift n (sy f ∷ l) e = let a : code (sy f) ≡ sy f = cc in let b : map code l ≡ l = cc in rw (a, code-shift n l b)
 code-shift n (va x ∷ l) e = let b : map code l ≡ l = cc in rw (code-var (n + x), code-shift n l b)
 
-in-below : (cs : List ℕ) (x : ℕ) → ((p : ℕ) → p < length cs → getD cs p 0 < 32800) → In x (items16 cs) → x < 32
+in-below : (cs : List ℕ) (x : ℕ) → ((p : ℕ) → p < length cs → getD cs p 0 < variableEnd) → Occurs x (items16 cs) → x < 32
 in-below [] x h i = absurd i
-in-below (c ∷ cs) x h i = go (decLe 32768 c) i (in-below cs x (λ p b. h (suc p) (omega arith)))
+in-below (c ∷ cs) x h i = go (decLe variableBase c) i (in-below cs x (λ p b. h (suc p) (omega arith)))
   where
-    at : (x ≡ c - 32768) ⊎ In x (items16 cs) → (In x (items16 cs) → x < 32) → x < 32
+    at : (x ≡ c - variableBase) ⊎ Occurs x (items16 cs) → (Occurs x (items16 cs) → x < 32) → x < 32
     at (inl e) ih = omega (arith, h 0 (omega arith))
     at (inr j) ih = ih j
 
-    go : Dec (32768 ≤ c) → In x (item16 c ∷ items16 cs) → (In x (items16 cs) → x < 32) → x < 32
-    go (yes v) j ih = at (rw (le-ltb c 32768 v) at j) ih
-    go (no v) j ih = let b : c < 32768 = omega arith in ih (rw (lt-ltb c 32768 b) at j)
+    go : Dec (variableBase ≤ c) → Occurs x (item16 c ∷ items16 cs) → (Occurs x (items16 cs) → x < 32) → x < 32
+    go (yes v) j ih = at (rw (le-ltb c variableBase v) at j) ih
+    go (no v) j ih = let b : c < variableBase = omega arith in ih (rw (lt-ltb c variableBase b) at j)
 
-pub term-below : (sig t : List ℕ) → Fine sig t → (x : ℕ) → In x (items t) → x < 32
+pub term-below : (sig t : List ℕ) → Fine sig t → (x : ℕ) → Occurs x (items t) → x < 32
 term-below sig t f x = in-below (codes 0 t) x (λ p b. (let l : p < length t / 2 = omega (arith, length-codes 0 t) in rw (codes-at t p l) (f .named p l)))
 
-pub shift-below : (n x : ℕ) (l : List Item) → ((y : ℕ) → In y l → y < 32) → In x (shift n l) → x < n + 32
+pub shift-below : (n x : ℕ) (l : List Item) → ((y : ℕ) → Occurs y l → y < 32) → Occurs x (shift n l) → x < n + 32
 shift-below n x [] h i = absurd i
 shift-below n x (sy f ∷ l) h i = shift-below n x l h i
 shift-below n x (va y ∷ l) h (inl e) = omega (arith, h y (inl refl))
 shift-below n x (va y ∷ l) h (inr i) = shift-below n x l (λ z j. h z (inr j)) i
 
--- the fields r, taken as a substitution that leaves every other variable alone, for the stored term t and the question q
+-- the fields r, taken as a substitution that leaves every other variable alone, for the stored term t and the
+-- question q
 pub record Reads (sig t q : List ℕ) (r : List Bind) : Type 0 where
   -- both terms become the same; every other unifier factors through it; applied twice it is itself
   pub most : Most (arity sig) (items t) (shift 32 (items q)) (once r)
@@ -195,7 +199,7 @@ pub record Reads (sig t q : List ℕ) (r : List Bind) : Type 0 where
   -- 'by ascending written number'
   pub ascends : Ascends 0 r
   -- 'each variable that occurs and whose value is not itself'
-  pub occurs : (x : ℕ) (u : List Item) → Has x u r → In x (items t) ⊎ In x (shift 32 (items q))
+  pub occurs : (x : ℕ) (u : List Item) → Has x u r → Occurs x (items t) ⊎ Occurs x (shift 32 (items q))
   pub differs : (x : ℕ) (u : List Item) → Has x u r → u ≢ vars x
 
 module _ (sig t q : List ℕ) (ft : Fine sig t) (fq : Fine sig q) (θ : ℕ → List Item) (u : Unifier sig (items t) (shift 32 (items q)) θ) where
@@ -240,14 +244,14 @@ octets-append : (v w : List ℕ) → Octets v → Octets w → Octets (v ++ w)
 octets-append [] w a b = b
 octets-append (c ∷ v) w a b = (a .0, octets-append v w (a .1) b)
 
-octets-bytes : (l : List Item) → map code l ≡ l → ((x : ℕ) → In x l → x < 64) → Octets (bytes l)
+octets-bytes : (l : List Item) → map code l ≡ l → ((x : ℕ) → Occurs x l → x < 64) → Octets (bytes l)
 unfolding bytes
 octets-bytes [] e h = tt
 octets-bytes (va x ∷ l) e h = let b : map code l ≡ l = cc in let c = h x (inl refl) in (omega arith, (omega arith, octets-bytes l b (λ y i. h y (inr i))))
-octets-bytes (sy f ∷ l) e h = let a : code (sy f) ≡ sy f = cc in let b : map code l ≡ l = cc in go (decLe 32768 f) a (octets-bytes l b h)
+octets-bytes (sy f ∷ l) e h = let a : code (sy f) ≡ sy f = cc in let b : map code l ≡ l = cc in go (decLe variableBase f) a (octets-bytes l b h)
   where
-    go : Dec (32768 ≤ f) → code (sy f) ≡ sy f → Octets (bytes l) → (f / 256 < 256) × ((f % 256 < 256) × Octets (bytes l))
-    go (yes v) a o = let c : va (f - 32768) ≡ sy f = rw (le-ltb f 32768 v) at a in let z : _≡_ {A = ℕ} 0 1 = cc in absurd (omega arith)
+    go : Dec (variableBase ≤ f) → code (sy f) ≡ sy f → Octets (bytes l) → (f / 256 < 256) × ((f % 256 < 256) × Octets (bytes l))
+    go (yes v) a o = let c : va (f - variableBase) ≡ sy f = rw (le-ltb f variableBase v) at a in let z : _≡_ {A = ℕ} 0 1 = cc in absurd (omega arith)
     go (no v) a o = (omega arith, (omega arith, o))
 
 length-bytes : (l : List Item) → length (bytes l) ≡ 2 * length l
@@ -257,10 +261,10 @@ length-bytes (i ∷ l) = omega (arith, length-bytes l)
 
 module _ (sig t q : List ℕ) (ft : Fine sig t) (fq : Fine sig q) (θ : ℕ → List Item) (u : Unifier sig (items t) (shift 32 (items q)) θ) where
   -- the variables of a value are written variables
-  value-below : (x : ℕ) → x < 64 → (z : ℕ) → In z (θ x) → z < 64
+  value-below : (x : ℕ) → x < 64 → (z : ℕ) → Occurs z (θ x) → z < 64
   value-below x b z i = go (ℕ-discrete x z) (in? z (items t)) (in? z (shift 32 (items q)))
     where
-      go : Dec (x ≡ z) → Dec (In z (items t)) → Dec (In z (shift 32 (items q))) → z < 64
+      go : Dec (x ≡ z) → Dec (Occurs z (items t)) → Dec (Occurs z (shift 32 (items q))) → z < 64
       go (yes e) d c = omega arith
       go (no n) (yes j) c = omega (arith, term-below sig t ft z j)
       go (no n) (no j) (yes k) = omega (arith, shift-below 32 z (items q) (term-below sig q fq) k)

@@ -1,4 +1,4 @@
--- Document 01, 'The solver's record': the unifier that is recorded, the variables that are listed, their bytes.
+-- SCOPE.md, 'The solver's record': the unifier that is recorded, the variables that are listed, their bytes.
 use Prim.Native.Nat.{ℕ, zero, suc, _+_, _/_, _%_, _≤_, _<_}
 use mathlib.Core.Path.{_≡_, refl, sym, ap, _∙_}
 use mathlib.Core.List.{List, [], _∷_, _++_}
@@ -7,8 +7,10 @@ use Rattle.theory.specs.Flat.{Item, va}
 use Rattle.theory.specs.Subst.{vars}
 use Rattle.theory.specs.Unify.{Bind, _:=_}
 use Rattle.theory.specs.Canon.{Least, Mgu, unique}
-use Rattle.theory.specs.Items.{arity, number, items, shift}
+use Rattle.theory.specs.Items.{number, items, shift}
 use Rattle.theory.specs.Matcher.{items?}
+use Rattle.laws.specs.Sizes.{valueLimit}
+use Rattle.terms.specs.Terms.{arity}
 
 -- the unifier of a and b that is recorded: most general and idempotent ('the three properties of demand 3'), and 'where
 -- variables are made equal and none of them gets a symbol, all take the one with the smallest written number'
@@ -52,7 +54,7 @@ countOf θ = length (listed θ)
 
 -- what refusal 14 is not given for: no value has over 2,048 items
 abbrev pub Short : (ℕ → List Item) → Type 0
-Short θ = (y : ℕ) → y < 64 → length (θ y) ≤ 2048
+Short θ = (y : ℕ) → y < 64 → length (θ y) ≤ valueLimit
 
 -- w is the record of the stored term t and the question q
 pub record IsRecord (sig t q w : List ℕ) : Type 0 where

@@ -1,5 +1,5 @@
--- Document 01, 'Term bytes': laws of Trees. The bytes that the term check takes are the terms, each spells one tree, and its parts
--- spell the tree's parts. 'Paths and keys': a term of n items has n keys, all distinct.
+-- SCOPE.md, 'Term bytes': laws of Trees. The bytes that the term check takes are the terms, each spells one tree, and
+-- its parts spell the tree's parts. 'Paths and keys': a term of n items has n keys, all distinct.
 use Prim.Native.Nat.{ℕ, zero, suc, _+_, _-_, _*_, _%_, _≤_, _<_}
 use mathlib.Core.Path.{_≡_, refl, sym, ap, _∙_}
 use mathlib.Core.Logic.{_⊎_, inl, inr, _↔_}
@@ -16,9 +16,11 @@ use Rattle.laws.specs.Choice.{pick}
 use Rattle.laws.specs.Members.{In, NoDup}
 use Rattle.keys.specs.Keys.{Tm, Args, node, nil, cons, nth, root, Key, endOf, size, sizes, HasKey, keys-length, keys-nodup, in-has, has-in}
 use Rattle.terms.specs.Terms.{numbers, span, declared, itemsGood, Signed, refusal, firstItem, argRefusal, argBytes}
-use Rattle.terms.proofs.Laws.{Good, good, span-zero, all-taken, length-numbers, arg-none}
-use Rattle.theory.specs.Checked.{fine-good}
+use Rattle.terms.proofs.TermLaws.{Good, good, span-zero, all-taken, length-numbers, arg-none}
+use Rattle.theory.specs.CheckedItems.{fine-good}
 use Rattle.definitions.specs.Trees.{countArgs, itemsT, itemsA, IsSymbol, Variable, Shaped, Shapes, IsTerm, firsts, others, forest, top, treeOf, argsOf, keysOf}
+use Rattle.laws.specs.Sizes.{variableBase, variableEnd}
+use Rattle.terms.specs.Terms.{arity}
 
 -- us, and then vs
 unfoldable pub join : Args → Args → Args
@@ -85,13 +87,13 @@ taken true c h = (refl, h)
 taken false c h = clash h
 
 -- the end of a variable's path is the star, of a symbol's the symbol
-pub end-variable : (x : ℕ) → 32768 ≤ x → endOf x ≡ 256
+pub end-variable : (x : ℕ) → variableBase ≤ x → endOf x ≡ 256
 unfolding endOf
-end-variable x h = rw (le-leb 32768 x h)
+end-variable x h = rw (le-leb variableBase x h)
 
-pub end-symbol : (x : ℕ) → x < 32768 → endOf x ≡ x
+pub end-symbol : (x : ℕ) → x < variableBase → endOf x ≡ x
 unfolding endOf
-end-symbol x h = rw (lt-leb 32768 x h)
+end-symbol x h = rw (lt-leb variableBase x h)
 
 module _ (sig : List ℕ) where
   shapes-firsts : (k : ℕ) (us : Args) → Shapes sig us → Shapes sig (firsts k us)
@@ -112,26 +114,26 @@ module _ (sig : List ℕ) where
   shapes-join (cons u us) vs w x = (w .0, shapes-join us vs (w .1) x)
 
   -- a variable's number is beyond the signature's end
-  pub variable-arity : length sig ≤ 256 → (x : ℕ) → Variable x → getD sig x 0 ≡ 0
+  pub variable-arity : length sig ≤ 256 → (x : ℕ) → Variable x → arity sig x ≡ 0
   variable-arity b x v = List·getD-eq-default sig 0 (omega (arith, v .0))
 
-  pub shaped-count : length sig ≤ 256 → (x : ℕ) (us : Args) → Shaped sig (node x us) → countArgs us ≡ getD sig x 0
+  pub shaped-count : length sig ≤ 256 → (x : ℕ) (us : Args) → Shaped sig (node x us) → countArgs us ≡ arity sig x
   unfolding Shaped
   shaped-count b x us w = go (w .0)
     where
-      go : (IsSymbol sig x × (countArgs us ≡ getD sig x 0)) ⊎ (Variable x × (countArgs us ≡ 0)) → countArgs us ≡ getD sig x 0
+      go : (IsSymbol sig x × (countArgs us ≡ arity sig x)) ⊎ (Variable x × (countArgs us ≡ 0)) → countArgs us ≡ arity sig x
       go (inl h) = h .1
       go (inr h) = h .1 ∙ sym (variable-arity b x (h .0))
 
-  declared-shape : length sig ≤ 256 → (x : ℕ) (us : Args) → declared (length sig) x ≡ true → countArgs us ≡ getD sig x 0 → Shapes sig us → Shaped sig (node x us)
+  declared-shape : length sig ≤ 256 → (x : ℕ) (us : Args) → declared (length sig) x ≡ true → countArgs us ≡ arity sig x → Shapes sig us → Shaped sig (node x us)
   unfolding declared Shaped
   declared-shape b x us d c w = (go (ltb x (length sig)) refl d, w)
     where
-      go : (q : Bool) → ltb x (length sig) ≡ q → pick q true (pick (leb 32768 x) (ltb x 32800) false) ≡ true
-          → (IsSymbol sig x × (countArgs us ≡ getD sig x 0)) ⊎ (Variable x × (countArgs us ≡ 0))
+      go : (q : Bool) → ltb x (length sig) ≡ q → pick q true (pick (leb variableBase x) (ltb x variableEnd) false) ≡ true
+          → (IsSymbol sig x × (countArgs us ≡ arity sig x)) ⊎ (Variable x × (countArgs us ≡ 0))
       go true e h = inl (ltb-true _ _ e, c)
       go false e h =
-          let p = taken (leb 32768 x) (ltb x 32800) h in
+          let p = taken (leb variableBase x) (ltb x variableEnd) h in
           let v : Variable x = (leb-true _ _ (p .0), ltb-true _ _ (p .1)) in
           inr (v, c ∙ variable-arity b x v)
 
@@ -139,9 +141,9 @@ module _ (sig : List ℕ) where
   unfolding declared Shaped
   shape-declared x us w = go (w .0)
     where
-      go : (IsSymbol sig x × (countArgs us ≡ getD sig x 0)) ⊎ (Variable x × (countArgs us ≡ 0)) → pick (ltb x (length sig)) true (pick (leb 32768 x) (ltb x 32800) false) ≡ true
+      go : (IsSymbol sig x × (countArgs us ≡ arity sig x)) ⊎ (Variable x × (countArgs us ≡ 0)) → pick (ltb x (length sig)) true (pick (leb variableBase x) (ltb x variableEnd) false) ≡ true
       go (inl h) = rw (lt-ltb x (length sig) (h .0))
-      go (inr h) = rw (le-leb 32768 x (h .0 .0), lt-ltb x 32800 (h .0 .1)) (same (ltb x (length sig)))
+      go (inr h) = rw (le-leb variableBase x (h .0 .0), lt-ltb x variableEnd (h .0 .1)) (same (ltb x (length sig)))
         where
           same : (q : Bool) → pick q true true ≡ true
           same true = refl
@@ -167,13 +169,13 @@ module _ (sig : List ℕ) where
   read b [] k e g h = (omega arith, tt, refl)
   read b (x ∷ []) k e g h = absurd (omega arith)
   read b (x ∷ l ∷ r) zero e g h = absurd (omega arith)
-  read b (x ∷ l ∷ r) (suc k) e g h = go (taken (declared (length sig) (x * 256 + l)) (itemsGood (length sig) r) g) (λ d. read b r (getD sig (x * 256 + l) 0 + k) (omega arith) d (omega arith))
+  read b (x ∷ l ∷ r) (suc k) e g h = go (taken (declared (length sig) (x * 256 + l)) (itemsGood (length sig) r) g) (λ d. read b r (arity sig (x * 256 + l) + k) (omega arith) d (omega arith))
     where
       y : ℕ
       y = x * 256 + l
 
       A : ℕ
-      A = getD sig y 0
+      A = arity sig y
 
       F : Args
       F = forest sig (numbers r)
@@ -197,7 +199,7 @@ module _ (sig : List ℕ) where
   unfolding firsts others itemsT numbers
   parts-none t us e = record { long = rw (span-zero sig t); before = rw (span-zero sig t); after = rw (span-zero sig t) e }
 
-  parts-more : (h m : ℕ) (r : List ℕ) (k x : ℕ) (vs us : Args) → countArgs vs ≡ getD sig x 0 → h * 256 + m ≡ x → Parts r (countArgs vs + k) (join vs us)
+  parts-more : (h m : ℕ) (r : List ℕ) (k x : ℕ) (vs us : Args) → countArgs vs ≡ arity sig x → h * 256 + m ≡ x → Parts r (countArgs vs + k) (join vs us)
       → Parts (h ∷ m ∷ r) (suc k) (cons (node x vs) us)
   unfolding numbers span firsts others itemsT
   parts-more h m r k x vs us c e p =
@@ -327,7 +329,7 @@ module _ (sig : List ℕ) where
   arg-term t i s h (node x us) w e =
       let n = arg-none sig t i h in
       let r = root-items t x us e in
-      let c : countArgs us ≡ getD sig (firstItem t) 0 = shaped-count (s .short) x us w ∙ ap (λ (z : ℕ). getD sig z 0) (sym (r .0)) in
+      let c : countArgs us ≡ arity sig (firstItem t) = shaped-count (s .short) x us w ∙ ap (λ (z : ℕ). arity sig z) (sym (r .0)) in
       let D = drop 2 t in
       let p = parts (s .short) D (i - 1) us (w .1) (omega (arith, c, n .2)) (r .1) in
       let v = nth-tree (i - 1) us (w .1) (omega (arith, c, n .1, n .2)) in

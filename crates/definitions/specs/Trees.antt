@@ -1,4 +1,4 @@
--- Document 01, 'Term bytes': a term as a tree, its items, and the tree that bytes spell.
+-- SCOPE.md, 'Term bytes': a term as a tree, its items, and the tree that bytes spell.
 use Prim.Native.Nat.{ℕ, zero, suc, _+_, _*_, _≤_, _<_}
 use mathlib.Core.Path.{_≡_}
 use mathlib.Core.Logic.{_⊎_}
@@ -6,6 +6,8 @@ use mathlib.Core.List.{List, [], _∷_, _++_}
 use lib.ListN.{length, getD}
 use Rattle.keys.specs.Keys.{Tm, Args, node, nil, cons, Key, root, keysT}
 use Rattle.terms.specs.Terms.{numbers}
+use Rattle.laws.specs.Sizes.{variableBase, variableEnd}
+use Rattle.terms.specs.Terms.{arity}
 
 -- how many arguments there are
 unfoldable pub countArgs : Args → ℕ
@@ -26,12 +28,12 @@ abbrev pub IsSymbol : List ℕ → ℕ → Type 0
 IsSymbol sig x = x < length sig
 
 abbrev pub Variable : ℕ → Type 0
-Variable x = (32768 ≤ x) × (x < 32800)
+Variable x = (variableBase ≤ x) × (x < variableEnd)
 
 -- a symbol has as many arguments as its arity; a variable has none
 unfoldable mutual
   pub Shaped : List ℕ → Tm → Type 0
-  Shaped sig (node x us) = ((IsSymbol sig x × (countArgs us ≡ getD sig x 0)) ⊎ (Variable x × (countArgs us ≡ 0))) × Shapes sig us
+  Shaped sig (node x us) = ((IsSymbol sig x × (countArgs us ≡ arity sig x)) ⊎ (Variable x × (countArgs us ≡ 0))) × Shapes sig us
 
   pub Shapes : List ℕ → Args → Type 0
   Shapes sig nil = Unit {0}
@@ -59,7 +61,7 @@ others (suc k) (cons t us) = others k us
 -- items read from the last to the first: each takes its arguments from the trees that follow it
 unfoldable pub forest : List ℕ → List ℕ → Args
 forest sig [] = nil
-forest sig (x ∷ xs) = cons (node x (firsts (getD sig x 0) (forest sig xs))) (others (getD sig x 0) (forest sig xs))
+forest sig (x ∷ xs) = cons (node x (firsts (arity sig x) (forest sig xs))) (others (arity sig x) (forest sig xs))
 
 unfoldable pub top : Args → Tm
 top nil = node 0 nil

@@ -1,1 +1,2 @@
-// Document 01 as definitions that compute, and what is proved of them; no code.
+// Terms as trees, candidates, keys as bytes, the relations, the record: definitions that compute, and laws of them;
+// no code.

@@ -1,4 +1,4 @@
--- Document 01, 'Term bytes': what the exported argument question writes.
+-- SCOPE.md, 'Term bytes': what the exported argument question writes.
 use Prim.Native.Nat.{ℕ}
 use mathlib.Core.List.{List}
 use lib.ListN.{length}

@@ -1,4 +1,5 @@
--- Serves document 01, 'The relations themselves' and 'Numbers of refusal': what the exported question about one pair answers and writes.
+-- Serves SCOPE.md, 'The relations themselves' and 'Numbers of refusal': what the exported question about one pair
+-- answers and writes.
 use Prim.Native.Nat.{ℕ}
 use mathlib.Core.Path.{_≡_}
 use mathlib.Core.Logic.{_≢_}

@@ -1,15 +1,9 @@
 // The number of each answer, 0 or the refusal's; what was answered goes through `&mut`, only where the number is 0.
+use calls::Reply;
 use pairs::Paired;
-use retrieve::Retrieved;
-use retrieve::Solved;
-use store::Deleted;
-use store::Inserted;
-use store::Listed;
-use store::Opened;
 ghost use mathlib.Core.Path.{_≡_};
-ghost use Rattle.retrieve.specs.Solving.{solvedNumber};
 ghost use Rattle.export.specs.Pair.{pairedNumber, pairedAnswer};
-ghost use Rattle.export.specs.Answered.{openedNumber, insertedNumber, deletedNumber, listedNumber, retrievedNumber, slotAfter, countAfter, candidatesAfter, answersAfter, fieldsAfter, writtenAfter};
+ghost use Rattle.export.specs.Replies.{replyNumber, firstOf, secondOf};
 
 // A refusal's number as C has it.
 pub fn code(number: u8) -> u32
@@ -34,70 +28,41 @@ pub fn paired(answer: Paired, told: &mut usize) -> u32
     }
 }
 
-pub fn opened(answer: Opened) -> u32
-    ensures { λ r. ⌜ r ≡ openedNumber answer ⌝ }
+// Of a call that tells no number.
+pub fn number_of(reply: Reply) -> u32
+    ensures { λ r. ⌜ r ≡ replyNumber reply ⌝ }
 {
-    match answer {
-        Opened::Open => 0,
-        Opened::Refused(why) => code(why.number()),
+    match reply {
+        Reply::Done(_, _) => 0,
+        Reply::Refused(why) => code(why.number()),
     }
 }
 
-pub fn inserted(answer: Inserted, slot: &mut usize) -> u32
-    ensures { λ r. ⌜ (r ≡ insertedNumber answer) × (now (slot .exit) ≡ slotAfter answer (now (slot .entry))) ⌝ }
+// Of a call that tells its first number.
+pub fn tell_first(reply: Reply, told: &mut usize) -> u32
+    ensures { λ r. ⌜ (r ≡ replyNumber reply) × (now (told .exit) ≡ firstOf reply (now (told .entry))) ⌝ }
 {
-    match answer {
-        Inserted::Slot(at) => {
-            *slot = at;
+    match reply {
+        Reply::Done(first, _) => {
+            *told = first;
             0
         }
-        Inserted::Refused(why) => code(why.number()),
+        Reply::Refused(why) => code(why.number()),
     }
 }
 
-pub fn deleted(answer: Deleted) -> u32
-    ensures { λ r. ⌜ r ≡ deletedNumber answer ⌝ }
+// Of a call that tells both numbers.
+pub fn tell_both(reply: Reply, one: &mut usize, two: &mut usize) -> u32
+    ensures { λ r. ⌜ (r ≡ replyNumber reply)
+        × (now (one .exit) ≡ firstOf reply (now (one .entry)))
+        × (now (two .exit) ≡ secondOf reply (now (two .entry))) ⌝ }
 {
-    match answer {
-        Deleted::Slot(_) => 0,
-        Deleted::Refused(why) => code(why.number()),
-    }
-}
-
-pub fn listed(answer: Listed, count: &mut usize) -> u32
-    ensures { λ r. ⌜ (r ≡ listedNumber answer) × (now (count .exit) ≡ countAfter answer (now (count .entry))) ⌝ }
-{
-    match answer {
-        Listed::Slots(n) => {
-            *count = n;
+    match reply {
+        Reply::Done(first, second) => {
+            *one = first;
+            *two = second;
             0
         }
-        Listed::Refused(why) => code(why.number()),
-    }
-}
-
-pub fn retrieved(answer: Retrieved, candidates: &mut usize, answers: &mut usize) -> u32
-    ensures { λ r. ⌜ (r ≡ retrievedNumber answer) × (now (candidates .exit) ≡ candidatesAfter answer (now (candidates .entry))) × (now (answers .exit) ≡ answersAfter answer (now (answers .entry))) ⌝ }
-{
-    match answer {
-        Retrieved::Listed(c, a) => {
-            *candidates = c;
-            *answers = a;
-            0
-        }
-        Retrieved::Refused(why) => code(why.number()),
-    }
-}
-
-pub fn solved(answer: Solved, fields: &mut usize, written: &mut usize) -> u32
-    ensures { λ r. ⌜ (r ≡ solvedNumber answer) × (now (fields .exit) ≡ fieldsAfter answer (now (fields .entry))) × (now (written .exit) ≡ writtenAfter answer (now (written .entry))) ⌝ }
-{
-    match answer {
-        Solved::Record(n, bytes) => {
-            *fields = n;
-            *written = bytes;
-            0
-        }
-        Solved::Refused(why) => code(why.number()),
+        Reply::Refused(why) => code(why.number()),
     }
 }

@@ -1,22 +1,23 @@
-// What C and Rust call. Each answers 0 or the number of the refusal (document 01, 'Numbers of refusal'), and writes numbers only where it answers 0.
+// What C and Rust call. Each answers 0 or the number of the refusal (SCOPE.md, 'Numbers of refusal'), and writes
+// numbers only where it answers 0.
 mod answers;
 
 use answers::code;
-use answers::deleted;
-use answers::inserted;
-use answers::listed;
-use answers::opened;
+use answers::number_of;
 use answers::paired;
-use answers::retrieved;
-use answers::solved;
+use answers::tell_both;
+use answers::tell_first;
 ghost use mathlib.Core.Path.{_≡_};
+ghost use mathlib.Core.List.{[]};
+ghost use lib.ListN.{length};
 ghost use Rattle.terms.specs.Terms.{sigRefusal, refusal, argRefusal};
 ghost use Rattle.theory.specs.Relations.{Unifiable};
 ghost use Rattle.pairs.specs.Pairs.{pairRefusal};
 ghost use Rattle.export.specs.Arguments.{startAfter, lengthAfter};
 ghost use Rattle.layout.specs.Tables.{held};
 ghost use Rattle.export.specs.Pair.{Told};
-ghost use Rattle.export.specs.Calls.{Opens, Inserts, Deletes, Lists, Retrieves, Solves};
+ghost use Rattle.library.specs.Store.{openWith, insert, delete, withKey, retrieve, solve};
+ghost use Rattle.meaning.specs.Runs.{Tells, TellsFirst, TellsBoth};
 
 // Refusal 2 or none.
 #[no_mangle]
@@ -57,7 +58,8 @@ pub extern "C" fn azunkefogo_argument(
     0
 }
 
-// Refusal 2, 5 to 8 (the lowest over both terms) or none: whether a stored term and a question are unifiable, 1 or 0, without tables.
+// Refusal 2, 5 to 8 (the first in rank over both terms) or none: whether a stored term and a question are unifiable,
+// 1 or 0, without tables.
 #[no_mangle]
 pub extern "C" fn azunkefogo_unifiable(
     sig: &[u8],
@@ -66,7 +68,8 @@ pub extern "C" fn azunkefogo_unifiable(
     answer: &mut usize,
 ) -> u32
     ensures { λ r. ⌜ r ≡ pairRefusal (now (sig .entry)) (now (stored .entry)) (now (question .entry)) ⌝ }
-    ensures { λ r. ⌜ Told r (now (answer .entry)) (now (answer .exit)) (Unifiable (now (sig .entry)) (now (stored .entry)) (now (question .entry))) ⌝ }
+    ensures { λ r. ⌜ Told r (now (answer .entry)) (now (answer .exit))
+        (Unifiable (now (sig .entry)) (now (stored .entry)) (now (question .entry))) ⌝ }
 {
     paired(pairs::unifiable(sig, stored, question), answer)
 }
@@ -84,9 +87,15 @@ pub extern "C" fn azunkefogo_open(
     sets3: &mut [u64],
     sig: &[u8],
 ) -> u32
-    ensures { λ r. ⌜ Opens (held (now (bytes .entry)) (now (used .entry)) (now (label .entry)) (now (link .entry)) (now (sets0 .entry)) (now (sets1 .entry)) (now (sets2 .entry)) (now (sets3 .entry))) (held (now (bytes .exit)) (now (used .exit)) (now (label .exit)) (now (link .exit)) (now (sets0 .exit)) (now (sets1 .exit)) (now (sets2 .exit)) (now (sets3 .exit))) (now (sig .entry)) r ⌝ }
+    ensures { λ r. ⌜ Tells
+        (held (now (bytes .entry)) (now (used .entry)) (now (label .entry)) (now (link .entry))
+        (now (sets0 .entry)) (now (sets1 .entry)) (now (sets2 .entry)) (now (sets3 .entry)))
+        [] (openWith (now (sig .entry)))
+        (held (now (bytes .exit)) (now (used .exit)) (now (label .exit)) (now (link .exit))
+        (now (sets0 .exit)) (now (sets1 .exit)) (now (sets2 .exit)) (now (sets3 .exit)))
+        [] r ⌝ }
 {
-    opened(store::open(bytes, used, label, link, sets0, sets1, sets2, sets3, sig))
+    number_of(store::open(bytes, used, label, link, sets0, sets1, sets2, sets3, sig))
 }
 
 // Stores a term in the smallest slot that is not in use.
@@ -103,9 +112,15 @@ pub extern "C" fn azunkefogo_insert(
     term: &[u8],
     slot: &mut usize,
 ) -> u32
-    ensures { λ r. ⌜ Inserts (held (now (bytes .entry)) (now (used .entry)) (now (label .entry)) (now (link .entry)) (now (sets0 .entry)) (now (sets1 .entry)) (now (sets2 .entry)) (now (sets3 .entry))) (held (now (bytes .exit)) (now (used .exit)) (now (label .exit)) (now (link .exit)) (now (sets0 .exit)) (now (sets1 .exit)) (now (sets2 .exit)) (now (sets3 .exit))) (now (term .entry)) (now (slot .entry)) (now (slot .exit)) r ⌝ }
+    ensures { λ r. ⌜ TellsFirst
+        (held (now (bytes .entry)) (now (used .entry)) (now (label .entry)) (now (link .entry))
+        (now (sets0 .entry)) (now (sets1 .entry)) (now (sets2 .entry)) (now (sets3 .entry)))
+        [] (insert (now (term .entry)))
+        (held (now (bytes .exit)) (now (used .exit)) (now (label .exit)) (now (link .exit))
+        (now (sets0 .exit)) (now (sets1 .exit)) (now (sets2 .exit)) (now (sets3 .exit)))
+        [] r (now (slot .entry)) (now (slot .exit)) ⌝ }
 {
-    inserted(
+    tell_first(
         store::insert(bytes, used, label, link, sets0, sets1, sets2, sets3, term),
         slot,
     )
@@ -124,9 +139,15 @@ pub extern "C" fn azunkefogo_delete(
     sets3: &mut [u64],
     slot: usize,
 ) -> u32
-    ensures { λ r. ⌜ Deletes (held (now (bytes .entry)) (now (used .entry)) (now (label .entry)) (now (link .entry)) (now (sets0 .entry)) (now (sets1 .entry)) (now (sets2 .entry)) (now (sets3 .entry))) (held (now (bytes .exit)) (now (used .exit)) (now (label .exit)) (now (link .exit)) (now (sets0 .exit)) (now (sets1 .exit)) (now (sets2 .exit)) (now (sets3 .exit))) slot r ⌝ }
+    ensures { λ r. ⌜ Tells
+        (held (now (bytes .entry)) (now (used .entry)) (now (label .entry)) (now (link .entry))
+        (now (sets0 .entry)) (now (sets1 .entry)) (now (sets2 .entry)) (now (sets3 .entry)))
+        [] (delete slot)
+        (held (now (bytes .exit)) (now (used .exit)) (now (label .exit)) (now (link .exit))
+        (now (sets0 .exit)) (now (sets1 .exit)) (now (sets2 .exit)) (now (sets3 .exit)))
+        [] r ⌝ }
 {
-    deleted(store::delete(bytes, used, label, link, sets0, sets1, sets2, sets3, slot))
+    number_of(store::delete(bytes, used, label, link, sets0, sets1, sets2, sets3, slot))
 }
 
 // The key question: the slots whose term has the key, two bytes each.
@@ -144,9 +165,15 @@ pub extern "C" fn azunkefogo_with_key(
     out: &mut [u8],
     count: &mut usize,
 ) -> u32
-    ensures { λ r. ⌜ Lists (held (now (bytes .entry)) (now (used .entry)) (now (label .entry)) (now (link .entry)) (now (sets0 .entry)) (now (sets1 .entry)) (now (sets2 .entry)) (now (sets3 .entry))) (now (key .entry)) (now (out .entry)) (now (out .exit)) (now (count .entry)) (now (count .exit)) r ⌝ }
+    ensures { λ r. ⌜ TellsFirst
+        (held (now (bytes .entry)) (now (used .entry)) (now (label .entry)) (now (link .entry))
+        (now (sets0 .entry)) (now (sets1 .entry)) (now (sets2 .entry)) (now (sets3 .entry)))
+        (now (out .entry)) (withKey (now (key .entry)) (length (now (out .entry))))
+        (held (now (bytes .entry)) (now (used .entry)) (now (label .entry)) (now (link .entry))
+        (now (sets0 .entry)) (now (sets1 .entry)) (now (sets2 .entry)) (now (sets3 .entry)))
+        (now (out .exit)) r (now (count .entry)) (now (count .exit)) ⌝ }
 {
-    listed(
+    tell_first(
         store::with_key(
             bytes,
             used,
@@ -180,9 +207,15 @@ pub extern "C" fn azunkefogo_retrieve(
     candidates: &mut usize,
     answers: &mut usize,
 ) -> u32
-    ensures { λ r. ⌜ Retrieves (held (now (bytes .entry)) (now (used .entry)) (now (label .entry)) (now (link .entry)) (now (sets0 .entry)) (now (sets1 .entry)) (now (sets2 .entry)) (now (sets3 .entry))) relation (now (question .entry)) (now (out .entry)) (now (out .exit)) (now (candidates .entry)) (now (candidates .exit)) (now (answers .entry)) (now (answers .exit)) r ⌝ }
+    ensures { λ r. ⌜ TellsBoth
+        (held (now (bytes .entry)) (now (used .entry)) (now (label .entry)) (now (link .entry))
+        (now (sets0 .entry)) (now (sets1 .entry)) (now (sets2 .entry)) (now (sets3 .entry)))
+        (now (out .entry)) (retrieve relation (now (question .entry)) (length (now (out .entry))))
+        (held (now (bytes .entry)) (now (used .entry)) (now (label .entry)) (now (link .entry))
+        (now (sets0 .entry)) (now (sets1 .entry)) (now (sets2 .entry)) (now (sets3 .entry)))
+        (now (out .exit)) r (now (candidates .entry)) (now (candidates .exit)) (now (answers .entry)) (now (answers .exit)) ⌝ }
 {
-    retrieved(
+    tell_both(
         retrieve::retrieve(
             bytes,
             used,
@@ -218,9 +251,15 @@ pub extern "C" fn azunkefogo_solve(
     fields: &mut usize,
     written: &mut usize,
 ) -> u32
-    ensures { λ r. ⌜ Solves (held (now (bytes .entry)) (now (used .entry)) (now (label .entry)) (now (link .entry)) (now (sets0 .entry)) (now (sets1 .entry)) (now (sets2 .entry)) (now (sets3 .entry))) slot (now (question .entry)) (now (out .entry)) (now (out .exit)) (now (fields .entry)) (now (fields .exit)) (now (written .entry)) (now (written .exit)) r ⌝ }
+    ensures { λ r. ⌜ TellsBoth
+        (held (now (bytes .entry)) (now (used .entry)) (now (label .entry)) (now (link .entry))
+        (now (sets0 .entry)) (now (sets1 .entry)) (now (sets2 .entry)) (now (sets3 .entry)))
+        (now (out .entry)) (solve slot (now (question .entry)) (length (now (out .entry))))
+        (held (now (bytes .entry)) (now (used .entry)) (now (label .entry)) (now (link .entry))
+        (now (sets0 .entry)) (now (sets1 .entry)) (now (sets2 .entry)) (now (sets3 .entry)))
+        (now (out .exit)) r (now (fields .entry)) (now (fields .exit)) (now (written .entry)) (now (written .exit)) ⌝ }
 {
-    solved(
+    tell_both(
         retrieve::solve(
             bytes,
             used,

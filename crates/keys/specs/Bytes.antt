@@ -1,14 +1,15 @@
--- Document 01, 'Paths and keys' and refusal 9: which bytes are a key.
+-- SCOPE.md, 'Paths and keys' and refusal 9: which bytes are a key.
 use Prim.Native.Nat.{ℕ, _+_, _*_, _<_, _≤_}
 use mathlib.Core.List.{List, [], _∷_}
 use mathlib.Core.Bool.{Bool, true, false}
 use lib.Dec.{ltb, leb, eqb}
 use lib.ListN.{length, getD}
 use Rattle.laws.specs.Choice.{pick}
+use Rattle.terms.specs.Terms.{arity}
 
 -- a step names a declared symbol and one of its arguments, from 1 on
 unfoldable pub stepGood : List ℕ → ℕ → ℕ → Bool
-stepGood sig f i = pick (ltb f (length sig)) (pick (eqb i 0) false (leb i (getD sig f 0))) false
+stepGood sig f i = pick (ltb f (length sig)) (pick (eqb i 0) false (leb i (arity sig f))) false
 
 -- an end is a declared symbol or the star
 unfoldable pub endGood : List ℕ → ℕ → Bool

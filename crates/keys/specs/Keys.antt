@@ -1,4 +1,4 @@
--- Document 01, 'Paths and keys': terms as trees, places in them, and their keys.
+-- SCOPE.md, 'Paths and keys': terms as trees, places in them, and their keys.
 use Prim.Native.Nat.{ℕ, zero, suc, _+_, _-_, _*_, _/_, _%_, _≤_, _<_}
 use mathlib.Core.Path.{_≡_, refl, sym, ap, _∙_}
 use mathlib.Core.Logic.{_⊎_, inl, inr, _↔_, ⊎-elim}
@@ -12,6 +12,7 @@ use lib.Dec.{leb, eqb}
 use lib.ListN.{length, length-append}
 use Rattle.laws.specs.Members.{In, NoDup, in-append, in-left, in-right, nodup-append}
 use Rattle.laws.specs.Choice.{pick}
+use Rattle.laws.specs.Sizes.{variableBase}
 
 mutual
   pub data Tm : Type 0 where
@@ -23,7 +24,7 @@ mutual
 
 -- what stands at the end of a path: a symbol, or the star, 256
 unfoldable pub endOf : ℕ → ℕ
-endOf x = pick (leb 32768 x) 256 x
+endOf x = pick (leb variableBase x) 256 x
 
 -- steps from the root: the symbol, and the argument's number from 0
 pub data Place : Type 0 where

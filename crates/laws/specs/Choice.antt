@@ -1,5 +1,5 @@
--- A choice between two values by a test. Every definition that goes by tests is written with it. Serves document 01, 'Numbers of
--- refusal': tests in a row give the lowest number that applies.
+-- A choice between two values by a test. Every definition that goes by tests is written with it. Serves SCOPE.md,
+-- 'Numbers of refusal': tests in the order of rank give the first that applies.
 use mathlib.Core.Bool.{Bool, true, false}
 
 abbrev pub pick {ℓ} : {A : Type ℓ} → Bool → A → A → A

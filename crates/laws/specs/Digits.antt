@@ -1,5 +1,5 @@
--- The binary digits of a number, and what the operations on words do to each. Serves document 01, 'Paths and keys': slot s is digit
--- s mod 64 of its word.
+-- The binary digits of a number, and what the operations on words do to each. Serves SCOPE.md, 'Paths and keys': slot
+-- s is digit s mod 64 of its word.
 use Prim.Native.Nat.{ℕ, zero, suc, _+_, _-_, _*_, _/_, _%_, _^_, _≤_, _<_, min, max}
 use mathlib.Core.Path.{_≡_, refl, sym, ap, _∙_}
 use native.Mathlib.Omega.{arith}

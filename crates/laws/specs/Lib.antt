@@ -1,3 +1,4 @@
 pub mod Choice
 pub mod Digits
 pub mod Members
+pub mod Sizes

@@ -3,6 +3,40 @@ ghost use mathlib.Core.Path.{_≡_};
 ghost use Prim.Native.Nat.{_+_, _*_, _<_};
 ghost use lib.ListN.{length, getD};
 
+// Every size of the library, once (specs/Sizes.antt): slots, keys, the variables' numbers, the items of a value.
+pub const SLOTS: usize = 512;
+
+pub const KEYS: usize = 4096;
+
+pub const KEYS16: u16 = 4096;
+
+pub const VARIABLE: usize = 32768;
+
+pub const VARIABLE_END: usize = 32800;
+
+pub const VARIABLE16: u16 = 32768;
+
+pub const VALUE_ITEMS: usize = 2048;
+
+// The lengths of the lent tables, and where what they hold starts (docs/TABLES.md).
+pub const LENGTHS_START: usize = 258;
+
+pub const TERMS_START: usize = LENGTHS_START + SLOTS;
+
+pub const BYTES: usize = TERMS_START + 64 * SLOTS;
+
+pub const USED: usize = 8;
+
+pub const LABEL: usize = KEYS;
+
+pub const SETS: usize = 2 * KEYS;
+
+pub const LINK: usize = 2 * KEYS - 2;
+
+pub const FREE: usize = LINK - 1;
+
+pub const ROOT: u32 = 32776;
+
 // A byte as a number.
 pub fn wide(x: u8) -> usize
     ensures { λ r. ⌜ (r ≡ x) × (r < 256) ⌝ }

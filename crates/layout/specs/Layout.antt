@@ -1,5 +1,5 @@
--- Document 01, 'Store' ('the tables' sizes are written in docs/'), docs/TABLES.md: how long the lent tables are, and where the
--- signature, the slots in use and the terms stand in them.
+-- SCOPE.md, 'Store' ('the tables' sizes are written in docs/'), docs/TABLES.md: how long the lent tables are, and
+-- where the signature, the slots in use and the terms stand in them.
 use Prim.Native.Nat.{ℕ, _+_, _*_, _/_, _%_, _≤_, _<_, max}
 use mathlib.Core.Path.{_≡_}
 use mathlib.Core.List.{List, [], _∷_, _++_}
@@ -9,25 +9,29 @@ use lib.ListN.{length, getD, set, take, drop, replicate}
 use lib.Seq.{sets}
 use Rattle.laws.specs.Choice.{pick}
 use Rattle.slots.specs.Slots.{has, words8}
+use Rattle.laws.specs.Sizes.{bytesLength, labelLength, lengthsStart, linkLength, setLength, slotCount, termsStart, usedLength}
 
 unfoldable pub setsLong : ℕ → ℕ → ℕ → ℕ → Bool
-setsLong a b c d = pick (ltb a 8192) false (pick (ltb b 8192) false (pick (ltb c 8192) false (leb 8192 d)))
+setsLong a b c d = pick (ltb a setLength) false
+    (pick (ltb b setLength) false (pick (ltb c setLength) false (leb setLength d)))
 
 -- refusal 1 is given exactly where this is false
 unfoldable pub longEnough : ℕ → ℕ → ℕ → ℕ → ℕ → ℕ → ℕ → ℕ → Bool
 longEnough b u l k s0 s1 s2 s3 =
-    pick (ltb b 33538) false (pick (ltb u 8) false (pick (ltb l 4096) false (pick (ltb k 8190) false (setsLong s0 s1 s2 s3))))
+    pick (ltb b bytesLength) false
+    (pick (ltb u usedLength) false
+    (pick (ltb l labelLength) false (pick (ltb k linkLength) false (setsLong s0 s1 s2 s3))))
 
 -- the tables are as long as that
 pub record Long (b u l k s0 s1 s2 s3 : ℕ) : Type 0 where
-  pub bytes : 33538 ≤ b
-  pub used : 8 ≤ u
-  pub labels : 4096 ≤ l
-  pub links : 8190 ≤ k
-  pub l0 : 8192 ≤ s0
-  pub l1 : 8192 ≤ s1
-  pub l2 : 8192 ≤ s2
-  pub l3 : 8192 ≤ s3
+  pub bytes : bytesLength ≤ b
+  pub used : usedLength ≤ u
+  pub labels : labelLength ≤ l
+  pub links : linkLength ≤ k
+  pub l0 : setLength ≤ s0
+  pub l1 : setLength ≤ s1
+  pub l2 : setLength ≤ s2
+  pub l3 : setLength ≤ s3
 
 unfoldable pub largestOf : List ℕ → ℕ
 largestOf [] = 0
@@ -43,14 +47,14 @@ signatureOf b = pick (ltb 256 (getD b 0 0 * 256 + getD b 1 0)) [] (pick (ltb 8 (
 
 -- the bytes of the term of a slot
 unfoldable pub termOf : List ℕ → ℕ → List ℕ
-termOf b s = take (getD b (258 + s) 0 % 65) (drop (770 + 64 * s) b)
+termOf b s = take (getD b (lengthsStart + s) 0 % 65) (drop (termsStart + 64 * s) b)
 
 -- the slots in use
 unfoldable pub usedOf : List ℕ → List ℕ
 usedOf u = words8 (λ i. getD u i 0)
 
 unfoldable pub isUsed : List ℕ → ℕ → Bool
-isUsed u s = pick (ltb s 512) (eqb (has (usedOf u) s) 1) false
+isUsed u s = pick (ltb s slotCount) (eqb (has (usedOf u) s) 1) false
 
 -- a list with zeros in its first n places
 unfoldable pub blank : ℕ → List ℕ → List ℕ
@@ -58,8 +62,8 @@ blank n l = replicate n 0 ++ drop n l
 
 -- the table of bytes after an opening with a signature
 unfoldable pub signed : List ℕ → List ℕ → List ℕ
-signed b sig = sets (set (set (blank 33538 b) 0 (length sig / 256)) 1 (length sig % 256)) 2 sig
+signed b sig = sets (set (set (blank bytesLength b) 0 (length sig / 256)) 1 (length sig % 256)) 2 sig
 
 -- the table of bytes with a term in a slot
 unfoldable pub withTerm : List ℕ → ℕ → List ℕ → List ℕ
-withTerm b s t = sets (set b (258 + s) (length t)) (770 + 64 * s) t
+withTerm b s t = sets (set b (lengthsStart + s) (length t)) (termsStart + 64 * s) t

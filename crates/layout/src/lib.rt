@@ -1,4 +1,12 @@
 // How long the lent tables are, and where the signature, the slots in use and the terms stand in them (docs/TABLES.md).
+use laws::BYTES;
+use laws::LABEL;
+use laws::LENGTHS_START;
+use laws::LINK;
+use laws::SETS;
+use laws::SLOTS;
+use laws::TERMS_START;
+use laws::USED;
 use laws::low;
 use laws::number_at;
 use laws::wide;
@@ -8,19 +16,52 @@ ghost use Prim.Native.Nat.{_+_, _-_, _*_, _%_, _≤_, _<_, max};
 ghost use lib.ListN.{length, getD};
 ghost use lib.Seq.{sets};
 ghost use Rattle.layout.specs.Layout.{setsLong, longEnough, largestOf, signatureOf, termOf, usedOf, isUsed, blank, signed, withTerm};
-
-// The tables' lengths, in elements.
-pub const BYTES: usize = 33538;
-
-pub const USED: usize = 8;
-
-pub const LABEL: usize = 4096;
-
-pub const LINK: usize = 8190;
-
-pub const SETS: usize = 8192;
+ghost use Rattle.laws.specs.Sizes.{bytesLength, slotCount};
 
 // Are the tables as long as docs/TABLES.md says; refusal 1 otherwise.
+pub fn lengths_suffice(
+    bytes: usize,
+    used: usize,
+    label: usize,
+    link: usize,
+    s0: usize,
+    s1: usize,
+    s2: usize,
+    s3: usize,
+) -> bool
+    ensures { λ r. ⌜ r ≡ longEnough bytes used label link s0 s1 s2 s3 ⌝ }
+{
+    if bytes < BYTES {
+        return false;
+    }
+    if used < USED {
+        return false;
+    }
+    if label < LABEL {
+        return false;
+    }
+    if link < LINK {
+        return false;
+    }
+    sets_suffice(s0, s1, s2, s3)
+}
+
+fn sets_suffice(s0: usize, s1: usize, s2: usize, s3: usize) -> bool
+    ensures { λ r. ⌜ r ≡ setsLong s0 s1 s2 s3 ⌝ }
+{
+    if s0 < SETS {
+        return false;
+    }
+    if s1 < SETS {
+        return false;
+    }
+    if s2 < SETS {
+        return false;
+    }
+    SETS <= s3
+}
+
+// The same, of the tables themselves.
 pub fn long_enough(
     bytes: &[u8],
     used: &[u64],
@@ -31,36 +72,21 @@ pub fn long_enough(
     s2: &[u64],
     s3: &[u64],
 ) -> bool
-    ensures { λ r. ⌜ r ≡ longEnough (length (now (bytes .entry))) (length (now (used .entry))) (length (now (label .entry))) (length (now (link .entry))) (length (now (s0 .entry))) (length (now (s1 .entry))) (length (now (s2 .entry))) (length (now (s3 .entry))) ⌝ }
+    ensures { λ r. ⌜ r
+        ≡ longEnough (length (now (bytes .entry))) (length (now (used .entry))) (length (now (label .entry)))
+        (length (now (link .entry))) (length (now (s0 .entry))) (length (now (s1 .entry)))
+        (length (now (s2 .entry))) (length (now (s3 .entry))) ⌝ }
 {
-    if bytes.len() < BYTES {
-        return false;
-    }
-    if used.len() < USED {
-        return false;
-    }
-    if label.len() < LABEL {
-        return false;
-    }
-    if link.len() < LINK {
-        return false;
-    }
-    sets_long(s0, s1, s2, s3)
-}
-
-fn sets_long(s0: &[u64], s1: &[u64], s2: &[u64], s3: &[u64]) -> bool
-    ensures { λ r. ⌜ r ≡ setsLong (length (now (s0 .entry))) (length (now (s1 .entry))) (length (now (s2 .entry))) (length (now (s3 .entry))) ⌝ }
-{
-    if s0.len() < SETS {
-        return false;
-    }
-    if s1.len() < SETS {
-        return false;
-    }
-    if s2.len() < SETS {
-        return false;
-    }
-    SETS <= s3.len()
+    lengths_suffice(
+        bytes.len(),
+        used.len(),
+        label.len(),
+        link.len(),
+        s0.len(),
+        s1.len(),
+        s2.len(),
+        s3.len(),
+    )
 }
 
 fn larger(a: u8, b: u8) -> u8
@@ -84,7 +110,7 @@ fn largest(s: &[u8]) -> u8
 
 // The signature; the empty part where the bytes hold none, as on memory that no opening made.
 pub fn signature(bytes: &[u8]) -> &[u8]
-    requires { ⌜ 33538 ≤ length (now bytes) ⌝ }
+    requires { ⌜ bytesLength ≤ length (now bytes) ⌝ }
     ensures { λ r. ⌜ now r ≡ signatureOf (now (bytes .entry)) ⌝ }
 {
     let n = number_at(bytes, 0);
@@ -100,11 +126,11 @@ pub fn signature(bytes: &[u8]) -> &[u8]
 
 // The term of a slot in use, as the part of the table where it stands.
 pub fn term(bytes: &[u8], slot: usize) -> &[u8]
-    requires { ⌜ (33538 ≤ length (now bytes)) × (slot < 512) ⌝ }
+    requires { ⌜ (bytesLength ≤ length (now bytes)) × (slot < slotCount) ⌝ }
     ensures { λ r. ⌜ (now r ≡ termOf (now (bytes .entry)) slot) × (length (now r) ≤ 64) ⌝ }
 {
-    let n = wide(bytes[258 + slot]) % 65;
-    let from = 770 + 64 * slot;
+    let n = wide(bytes[LENGTHS_START + slot]) % 65;
+    let from = TERMS_START + 64 * slot;
     let to = from + n;
     &bytes[from..to]
 }
@@ -133,7 +159,7 @@ pub fn in_use(used: &[u64], slot: usize) -> bool
     requires { ⌜ 8 ≤ length (now used) ⌝ }
     ensures { λ r. ⌜ r ≡ isUsed (now (used .entry)) slot ⌝ }
 {
-    if 512 <= slot {
+    if SLOTS <= slot {
         return false;
     }
     slots_used(used).contains(slot)
@@ -186,7 +212,7 @@ pub fn clear64(words: &mut [u64], n: usize)
 
 // Writes a checked signature over all zeros.
 pub fn put_signature(bytes: &mut [u8], sig: &[u8])
-    requires { ⌜ (33538 ≤ length (now bytes)) × (length (now sig) ≤ 256) ⌝ }
+    requires { ⌜ (bytesLength ≤ length (now bytes)) × (length (now sig) ≤ 256) ⌝ }
     ensures { λ _. ⌜ now (bytes .exit) ≡ signed (now (bytes .entry)) (now (sig .entry)) ⌝ }
 {
     clear8(bytes, BYTES);
@@ -198,11 +224,11 @@ pub fn put_signature(bytes: &mut [u8], sig: &[u8])
 
 // Writes the term of a slot.
 pub fn put_term(bytes: &mut [u8], slot: usize, t: &[u8])
-    requires { ⌜ (33538 ≤ length (now bytes)) × (slot < 512) × (length (now t) ≤ 64) ⌝ }
+    requires { ⌜ (bytesLength ≤ length (now bytes)) × (slot < slotCount) × (length (now t) ≤ 64) ⌝ }
     ensures { λ _. ⌜ now (bytes .exit) ≡ withTerm (now (bytes .entry)) slot (now (t .entry)) ⌝ }
 {
-    bytes[258 + slot] = low(t.len());
-    copy(bytes, 770 + 64 * slot, t);
+    bytes[LENGTHS_START + slot] = low(t.len());
+    copy(bytes, TERMS_START + 64 * slot, t);
 }
 
 // Writes the slots in use.
@@ -210,13 +236,9 @@ pub fn put_used(used: &mut [u64], set: SlotSet)
     requires { ⌜ 8 ≤ length (now used) ⌝ }
     ensures { λ _. ⌜ now (used .exit) ≡ sets (now (used .entry)) 0 (usedOf (set .words)) ⌝ }
 {
-    let w = set.words;
-    used[0] = w[0];
-    used[1] = w[1];
-    used[2] = w[2];
-    used[3] = w[3];
-    used[4] = w[4];
-    used[5] = w[5];
-    used[6] = w[6];
-    used[7] = w[7];
+    let mut i: usize = 0;
+    while i < SlotSet::WORDS {
+        used[i] = set.words[i];
+        i += 1;
+    }
 }

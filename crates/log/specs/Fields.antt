@@ -1,4 +1,4 @@
--- Document 01, 'The log program': the field that starts at a place of the input.
+-- SCOPE.md, 'The log program': the field that starts at a place of the input.
 use Prim.Native.Nat.{ℕ, _+_, _-_, _*_}
 use mathlib.Core.List.{List}
 use lib.ListN.{length, getD}

@@ -1,4 +1,4 @@
--- Document 01, 'The log program': the bytes of an answer's line.
+-- SCOPE.md, 'The log program': the bytes of an answer's line.
 use Prim.Native.Nat.{ℕ, zero, suc, _+_, _*_, _/_, _%_, _≤_, min}
 use mathlib.Core.Path.{_≡_}
 use mathlib.Core.List.{List, [], _∷_, _++_}
@@ -67,7 +67,8 @@ slotLine word slot = word ++ (ok ++ (figure slot ++ feed))
 
 -- `retrieve ok 3 1 1`
 unfoldable pub foundLine : List ℕ → ℕ → ℕ → List ℕ → List ℕ
-foundLine word candidates answers listing = word ++ (ok ++ (figure candidates ++ (figure answers ++ (slotList listing ++ feed))))
+foundLine word candidates answers listing = word ++
+    (ok ++ (figure candidates ++ (figure answers ++ (slotList listing ++ feed))))
 
 -- `solve ok 1 10000480208000`
 unfoldable pub solvedLine : List ℕ → ℕ → List ℕ → List ℕ

@@ -1,4 +1,4 @@
--- Document 01, 'The log program': the fields of a log, one after another.
+-- SCOPE.md, 'The log program': the fields of a log, one after another.
 use Prim.Native.Nat.{ℕ, zero, suc, _+_, _-_}
 use mathlib.Core.List.{List, [], _∷_}
 use lib.ListN.{length}

@@ -14,7 +14,7 @@ pub enum Field {
     },
 }
 
-// Document 01, 'The log program': one-byte tag, two-byte length (high first), payload.
+// SCOPE.md, 'The log program': one-byte tag, two-byte length (high first), payload.
 pub fn field_at(input: &[u8], at: usize) -> Field
     ensures { λ r. ⌜ r ≡ fieldAt (now (input .entry)) at ⌝ }
 {

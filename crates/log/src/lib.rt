@@ -1,4 +1,4 @@
-// The fields of an operation log and the lines of its answers (document 01, 'The log program').
+// The fields of an operation log and the lines of its answers (SCOPE.md, 'The log program').
 mod field;
 mod line;
 mod put;

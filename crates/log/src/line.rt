@@ -53,7 +53,8 @@ pub fn found_line(
     answers: usize,
     listing: &[u8],
 ) -> usize
-    ensures { λ r. ⌜ Put (now (line .entry)) (now (line .exit)) 0 (foundLine (now (word .entry)) candidates answers (now (listing .entry))) r ⌝ }
+    ensures { λ r. ⌜ Put (now (line .entry)) (now (line .exit)) 0
+        (foundLine (now (word .entry)) candidates answers (now (listing .entry))) r ⌝ }
 {
     let a = put_head(line, word, candidates);
     let b = put_figure(line, a, answers);
@@ -75,7 +76,8 @@ fn put_record(line: &mut [u8], at: usize, bytes: &[u8]) -> usize
 
 // `solve ok 1 10000480208000`, of a record's bytes.
 pub fn solved_line(line: &mut [u8], word: &[u8], fields: usize, bytes: &[u8]) -> usize
-    ensures { λ r. ⌜ Put (now (line .entry)) (now (line .exit)) 0 (solvedLine (now (word .entry)) fields (now (bytes .entry))) r ⌝ }
+    ensures { λ r. ⌜
+        Put (now (line .entry)) (now (line .exit)) 0 (solvedLine (now (word .entry)) fields (now (bytes .entry))) r ⌝ }
 {
     let a = put_head(line, word, fields);
     let b = put_record(line, a, bytes);

@@ -1,4 +1,4 @@
-// A reader of a log: the log's slice and the place of its next field (document 01, 'The log program').
+// A reader of a log: the log's slice and the place of its next field (SCOPE.md, 'The log program').
 // Each function over the struct is thin, and proved by hand; `take_at` does the work.
 use crate::field::Field;
 use crate::field::field_at;

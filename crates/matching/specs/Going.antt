@@ -1,5 +1,5 @@
--- Serves document 01, 'The relations themselves': the walk of matching, before item i of the pattern p and item j of the target t:
--- its state, each step, and the ends.
+-- Serves SCOPE.md, 'The relations themselves': the walk of matching, before item i of the pattern p and item j of the
+-- target t: its state, each step, and the ends.
 use mathlib.Core.Path.{_≡_, refl, sym, ap, _∙_}
 use mathlib.Core.Logic.{inl, inr, _≢_}
 use mathlib.Core.List.{List, [], _∷_, _++_}
@@ -14,16 +14,18 @@ use Rattle.theory.specs.Flat.{Item, sy, va, Terms}
 use Rattle.theory.specs.Subst.{vars, app, app-agree, term-length}
 use Rattle.theory.specs.Unify.{Bind, _:=_, Unbound, Has}
 use Rattle.theory.specs.Cut.{first, rest, first-rest, first-terms, rest-terms, first-append}
-use Rattle.theory.specs.Items.{item16, item16-one, arity, items, itemAt, length-items, items-at, items-drop, Fine}
+use Rattle.theory.specs.Items.{item16, item16-one, items, itemAt, length-items, items-at, items-drop, Fine}
 use Rattle.theory.specs.Nodes.{val, val-var, Next}
 use Rattle.theory.specs.Relations.{Instance, Variant}
 use Rattle.theory.specs.Match.{Inv, start, step-symbol, step-new, step-old, none-symbol, none-differs, found, once, once-sub, agrees-once, agrees-has}
+use Rattle.laws.specs.Sizes.{variableBase}
+use Rattle.terms.specs.Terms.{arity}
 
-sym-item : (c : ℕ) → c < 32768 → item16 c ≡ sy c
-sym-item c b = rw (lt-ltb c 32768 b)
+sym-item : (c : ℕ) → c < variableBase → item16 c ≡ sy c
+sym-item c b = rw (lt-ltb c variableBase b)
 
-var-item : (c : ℕ) → 32768 ≤ c → item16 c ≡ va (c - 32768)
-var-item c b = rw (le-ltb c 32768 b)
+var-item : (c : ℕ) → variableBase ≤ c → item16 c ≡ va (c - variableBase)
+var-item c b = rw (le-ltb c variableBase b)
 
 module _ (sig p t : List ℕ) where
   -- the binding of y: none, or to the term at an item before j
@@ -72,7 +74,7 @@ module _ (sig p t : List ℕ) where
     head-t : drop j (items t) ≡ item16 (itemAt t j) ∷ drop (j + 1) (items t)
     head-t = items-drop t j going-in
 
-    module _ (f : itemAt p i < 32768) where
+    module _ (f : itemAt p i < variableBase) where
       sym-p : drop i (items p) ≡ sy (itemAt p i) ∷ drop (i + 1) (items p)
       sym-p = head-p ∙ ap (λ (r : Item). r ∷ drop (i + 1) (items p)) (sym-item (itemAt p i) f)
 
@@ -99,15 +101,15 @@ module _ (sig p t : List ℕ) where
           (λ e. n (item16-one (itemAt t j) (itemAt p i) (e ∙ sym (sym-item (itemAt p i) f)))) (rw (sym-p, head-t) at (g .inv)) (r .by) (r .sub) (r .turns)
 
     -- a variable of the pattern against the term at j, which ends before e
-    module _ (f : 32768 ≤ itemAt p i) where
+    module _ (f : variableBase ≤ itemAt p i) where
       abbrev x : ℕ
-      x = itemAt p i - 32768
+      x = itemAt p i - variableBase
 
       var-p : drop i (items p) ≡ va x ∷ drop (i + 1) (items p)
       var-p = head-p ∙ ap (λ (r : Item). r ∷ drop (i + 1) (items p)) (var-item (itemAt p i) f)
 
       -- a symbol of the target there: no variable becomes it
-      pub going-lone : itemAt t j < 32768 → Variant p t → ⊥
+      pub going-lone : itemAt t j < variableBase → Variant p t → ⊥
       going-lone b r =
           let σ : ℕ → List Item = λ y. vars (r .to y) in
           let d = g .inv .same σ (λ y. tt) .0 (r .turns) .1 in
@@ -211,12 +213,12 @@ module _ (sig p t : List ℕ) where
         go (no d) h = h
 
     -- every binding is to a variable
-    pub going-renames : ((y q : ℕ) → getD tab y 0 ≡ suc q → 32768 ≤ itemAt t q) → Variant p t
+    pub going-renames : ((y q : ℕ) → getD tab y 0 ≡ suc q → variableBase ≤ itemAt t q) → Variant p t
     going-renames h = record { to = λ y. name y (getD tab y 0); turns = app-agree (λ y. vars (name y (getD tab y 0))) (once (g .binds)) (items p) (λ y k. at y (getD tab y 0) refl) ∙ turns }
       where
         name : ℕ → ℕ → ℕ
         name y zero = y
-        name y (suc q) = itemAt t q - 32768
+        name y (suc q) = itemAt t q - variableBase
 
         at : (y n : ℕ) → getD tab y 0 ≡ n → vars (name y n) ≡ once (g .binds) y
         at y zero e = sym (once-free (g .binds) y (rw e at (g .table y)))
@@ -224,4 +226,4 @@ module _ (sig p t : List ℕ) where
             let k : Entry (g .binds) j y (suc q) = rw e at (g .table y) in
             let b : q < length t / 2 = omega (arith, k .0, g .low) in
             sym (agrees-has (once (g .binds)) y (val (arity sig) (items t) q) (g .binds) (k .1) (agrees-once (arity sig) (g .binds) (g .inv .once-each))
-            ∙ val-var (arity sig) (items t) q (itemAt t q - 32768) (omega (arith, length-items t)) (items-at t q b ∙ var-item (itemAt t q) (h y q e)))
+            ∙ val-var (arity sig) (items t) q (itemAt t q - variableBase) (omega (arith, length-items t)) (items-at t q b ∙ var-item (itemAt t q) (h y q e)))

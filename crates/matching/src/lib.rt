@@ -1,5 +1,6 @@
-// Equal, instance and variant (document 01, 'The relations themselves'). The target's variables stand still: a pattern
+// Equal, instance and variant (SCOPE.md, 'The relations themselves'). The target's variables stand still: a pattern
 // variable's number is an index of the binding table and is never compared with a number of the target.
+use laws::VARIABLE;
 use laws::low;
 use laws::number_at;
 use laws::wide;
@@ -10,7 +11,7 @@ ghost use lib.ListN.{length, getD, take, drop};
 ghost use Rattle.theory.specs.Items.{items, Fine};
 ghost use Rattle.theory.specs.Relations.{Decided, Instance, Variant};
 ghost use Rattle.matching.specs.Going.{Going};
-ghost use Rattle.matching.specs.Steps.{Ends, Agreed, Stepped, Met};
+ghost use Rattle.matching.specs.Steps.{EndsAt, Agreed, Stepped, Met};
 
 // Whether a and b are the same bytes.
 pub fn equal(a: &[u8], b: &[u8]) -> bool
@@ -32,7 +33,7 @@ pub fn equal(a: &[u8], b: &[u8]) -> bool
 // The item after the term that begins at item j of t.
 fn end_of(sig: &[u8], t: &[u8], j: usize) -> usize
     requires { ⌜ Fine (now sig) (now t) × (j < length (now t) / 2) ⌝ }
-    ensures { λ r. ⌜ Ends (now (sig .entry)) (now (t .entry)) j r ⌝ }
+    ensures { λ r. ⌜ EndsAt (now (sig .entry)) (now (t .entry)) j r ⌝ }
 {
     let mut opened: usize = 1;
     let mut i = j;
@@ -61,7 +62,8 @@ fn same(t: &[u8], a: usize, b: usize, n: usize) -> bool
 
 // Pattern variable x against the items of t from j to e: bound to them, or whether they are what it has.
 fn agrees(t: &[u8], tab: &mut [u8; 32], x: usize, j: usize, e: usize) -> bool
-    requires { ⌜ (length (now tab) ≡ 32) × (length (now t) ≤ 64) × (x < 32) × (j < e) × (e ≤ length (now t) / 2) × ((q : ℕ) → getD (now tab) x 0 ≡ suc q → q < j) ⌝ }
+    requires { ⌜ (length (now tab) ≡ 32) × (length (now t) ≤ 64) × (x < 32) × (j < e) × (e ≤ length (now t) / 2)
+        × ((q : ℕ) → getD (now tab) x 0 ≡ suc q → q < j) ⌝ }
     ensures { λ r. ⌜ Agreed (now (t .entry)) (now (tab .entry)) (now (tab .exit)) x j e r ⌝ }
 {
     let b = wide(tab[x]);
@@ -72,20 +74,23 @@ fn agrees(t: &[u8], tab: &mut [u8; 32], x: usize, j: usize, e: usize) -> bool
     same(t, b - 1, j, e - j)
 }
 
-// Item i of the pattern against the target from item j on: the item of the target that comes next, or 0 where it differs.
+// Item i of the pattern against the target from item j on: the item of the target that comes next, or 0 where it
+// differs.
 fn step(sig: &[u8], pattern: &[u8], target: &[u8], tab: &mut [u8; 32], i: usize, j: usize) -> usize
-    requires { ⌜ Fine (now sig) (now pattern) × Fine (now sig) (now target) × (i < length (now pattern) / 2) × Going (now sig) (now pattern) (now target) (now tab) i j ⌝ }
-    ensures { λ r. ⌜ Stepped (now (sig .entry)) (now (pattern .entry)) (now (target .entry)) (now (tab .entry)) (now (tab .exit)) i j r ⌝ }
+    requires { ⌜ Fine (now sig) (now pattern) × Fine (now sig) (now target) × (i < length (now pattern) / 2)
+        × Going (now sig) (now pattern) (now target) (now tab) i j ⌝ }
+    ensures { λ r. ⌜ Stepped (now (sig .entry)) (now (pattern .entry)) (now (target .entry)) (now (tab .entry))
+        (now (tab .exit)) i j r ⌝ }
 {
     let c = number_at(pattern, 2 * i);
-    if c < 32768 {
+    if c < VARIABLE {
         if number_at(target, 2 * j) != c {
             return 0;
         }
         return j + 1;
     }
     let e = end_of(sig, target, j);
-    if agrees(target, tab, c - 32768, j, e) {
+    if agrees(target, tab, c - VARIABLE, j, e) {
         return e;
     }
     0
@@ -115,10 +120,10 @@ fn meets(pattern: &[u8], target: &[u8], i: usize, j: usize) -> bool
     requires { ⌜ (i < length (now pattern) / 2) × (j < length (now target) / 2) ⌝ }
     ensures { λ r. ⌜ Met (now (pattern .entry)) (now (target .entry)) i j r ⌝ }
 {
-    if number_at(pattern, 2 * i) < 32768 {
+    if number_at(pattern, 2 * i) < VARIABLE {
         return true;
     }
-    32768 <= number_at(target, 2 * j)
+    VARIABLE <= number_at(target, 2 * j)
 }
 
 // Whether some replacement of variables by variables turns the pattern into the target.

@@ -1,5 +1,5 @@
--- Document 01, 'Store': what opening, insert and delete answer on the tables is what the store answers, and afterwards the tables
--- stand for the store afterwards.
+-- SCOPE.md, 'Store': what opening, insert and delete answer on the tables is what the store answers, and afterwards
+-- the tables stand for the store afterwards.
 use Prim.Native.Nat.{ℕ, zero, suc, _+_, _≤_, _<_}
 use mathlib.Core.Path.{_≡_, refl, sym}
 use mathlib.Core.List.{List}
@@ -13,28 +13,20 @@ use lib.ListN.{length}
 use Rattle.laws.specs.Choice.{pick}
 use Rattle.terms.specs.Terms.{aritiesGood, sigRefusal, refusal}
 use Rattle.definitions.specs.Spelt.{clash}
-use Rattle.definitions.specs.Store.{Store, holding, inUse, freeFrom, firstFree, put, keyCount, Answer, refused, opened, slot, openWith, insert, delete, answered, empty, unless, after}
+use Rattle.library.specs.Store.{Store, holding, inUse, freeFrom, firstFree, put, keyCount, openWith, insert, delete, answered, empty, after}
 use Rattle.layout.specs.Tables.{Tables, ample}
-use Rattle.layout.proofs.Laws.{long}
+use Rattle.layout.proofs.LayoutLaws.{long}
 use Rattle.store.specs.Tables.{upsOf, endsOf, roomFor, openedWith, insertedAt, deletedAt}
-use Rattle.store.specs.Calls.{Outcome, done, refusedBy, opening, inserting, deleting}
-use Rattle.store.specs.Means.{open-holds}
-use Rattle.store.specs.Means as Slots
+use Rattle.calls.specs.Outcome.{result}
+use Rattle.store.specs.Calls.{opening, insertAnswer, inserting, deleting}
+use Rattle.store.specs.TablesHold.{open-holds}
+use Rattle.store.specs.TablesHold as Slots
 use Rattle.store.specs.Changes.{insert-holds, delete-holds}
-use Rattle.meaning.specs.Stand.{Stand, stand-ample, stand-slots, in-use}
+use Rattle.meaning.specs.Stand.{Stand, stand-ample, stand-slots, in-use, Means, refused-means}
 use Rattle.meaning.specs.Lists.{free-first}
 use Rattle.meaning.specs.Counting.{room-test}
-use Rattle.definitions.specs.Applies.{refusalIn}
-use Rattle.meaning.specs.Keyed.{countIn}
-
--- an outcome is an answer, and its tables stand for a store
-pub record Does (o : Outcome) (a : Answer) (st : Store) : Type 0 where
-  pub number : o .refused ≡ refusalIn a
-  pub value : o .value ≡ countIn a
-  pub stand : Stand (o .after) st
-
-does-refused : (n : ℕ) (T : Tables) (st : Store) → Stand T st → Does (refusedBy n T) (refused n) st
-does-refused n T st h = record { number = refl; value = refl; stand = h }
+use Rattle.definitions.specs.Answers.{refused, opened, slot, unless}
+use Rattle.laws.specs.Sizes.{keyLimit, slotCount}
 
 -- OPENING of any tables that are long enough
 pub open-stand : (T : Tables) (sig : List ℕ) → ample T ≡ true → sigRefusal sig ≡ 0 → Stand (openedWith T sig) (empty sig)
@@ -51,32 +43,29 @@ signature-two sig n = go (eqb (length sig) 0) (ltb 256 (length sig)) (aritiesGoo
     go false false true n = absurd (n refl)
     go false false false n = refl
 
-pub opening-does : (T : Tables) (st : Store) (sig : List ℕ) → Stand T st → Does (opening T sig) (answered st (openWith sig)) (after st (openWith sig))
+pub opening-means : (T : Tables) (st : Store) (sig : List ℕ) → Stand T st → Means (opening T sig) (answered st (openWith sig)) (after st (openWith sig))
 unfolding opening after answered
-opening-does T st sig h = rw (stand-ample T st h) (go (eqb (sigRefusal sig) 0) refl)
+opening-means T st sig h = rw (stand-ample T st h) (go (eqb (sigRefusal sig) 0) refl)
   where
-    go : (b : Bool) → eqb (sigRefusal sig) 0 ≡ b → Does (pick b (done 0 (openedWith T sig)) (refusedBy (sigRefusal sig) T)) (pick b opened (refused 2)) (unless (pick b opened (refused 2)) st (empty sig))
-    go true e = record { number = refl; value = refl; stand = open-stand T sig (stand-ample T st h) (eqb-true (sigRefusal sig) 0 e) }
-    go false e = rw (signature-two sig (eqb-false (sigRefusal sig) 0 e)) (does-refused 2 T st h)
-
--- and the first opening, on tables that stand for nothing yet
-pub opening-first : (T : Tables) (sig : List ℕ) → ample T ≡ true → sigRefusal sig ≡ 0 → opening T sig ≡ done 0 (openedWith T sig)
-unfolding opening
-opening-first T sig l s = rw (l, eq-eqb (sigRefusal sig) 0 s)
+    go : (b : Bool) → eqb (sigRefusal sig) 0 ≡ b
+        → Means (result (pick b opened (refused (sigRefusal sig))) T (openedWith T sig)) (pick b opened (refused 2)) (unless (pick b opened (refused 2)) st (empty sig))
+    go true e = record { answer = refl; stand = open-stand T sig (stand-ample T st h) (eqb-true (sigRefusal sig) 0 e) }
+    go false e = rw (signature-two sig (eqb-false (sigRefusal sig) 0 e)) (refused-means 2 T (openedWith T sig) st h)
 
 -- DELETE
 put-held : (st : Store) (s : ℕ) (o : Option (List ℕ)) (T : Tables) → sigRefusal (st .signature) ≡ 0 → Slots.Holds T (st .signature) (Slots.changed (st .held) s o) → Stand T (put st s o)
 unfolding put Slots.changed
 put-held st s o T g h = record { signed = g; holds = h }
 
-pub deleting-does : (T : Tables) (st : Store) (s : ℕ) → Stand T st → Does (deleting T s) (answered st (delete s)) (after st (delete s))
+pub deleting-means : (T : Tables) (st : Store) (s : ℕ) → Stand T st → Means (deleting T s) (answered st (delete s)) (after st (delete s))
 unfolding deleting after answered
-deleting-does T st s h = rw (stand-ample T st h, stand-slots T st h s) (go (inUse st s) refl)
+deleting-means T st s h = rw (stand-ample T st h, stand-slots T st h s) (go (inUse st s) refl)
   where
-    go : (b : Bool) → inUse st s ≡ b → Does (pick b (done s (deletedAt T s)) (refusedBy 4 T)) (pick b (slot s) (refused 4)) (unless (pick b (slot s) (refused 4)) st (put st s none))
+    go : (b : Bool) → inUse st s ≡ b
+        → Means (result (pick b (slot s) (refused 4)) T (deletedAt T s)) (pick b (slot s) (refused 4)) (unless (pick b (slot s) (refused 4)) st (put st s none))
     go true e = let w = in-use st s e in
-        record { number = refl; value = refl; stand = put-held st s none (deletedAt T s) (h .signed) (delete-holds T (st .signature) (st .held) (w .1 .0) s (h .holds) (w .0) (w .1 .1)) }
-    go false e = does-refused 4 T st h
+        record { answer = refl; stand = put-held st s none (deletedAt T s) (h .signed) (delete-holds T (st .signature) (st .held) (w .1 .0) s (h .holds) (w .0) (w .1 .1)) }
+    go false e = refused-means 4 T (deletedAt T s) st h
 
 -- INSERT: the smallest free slot is free
 free-most : (st : Store) (k s : ℕ) → freeFrom st k s ≤ s + k
@@ -97,45 +86,54 @@ free-is st (suc k) s h = go (inUse st s) refl h (free-is st k (suc s))
     go true e h ih = ih (omega arith)
     go false e h ih = e
 
-not-in-use : (st : Store) (s : ℕ) → s < 512 → inUse st s ≡ false → st .held s ≡ none
+not-in-use : (st : Store) (s : ℕ) → s < slotCount → inUse st s ≡ false → st .held s ≡ none
 unfolding inUse
-not-in-use st s l h = go (st .held s) (rw (lt-ltb s 512 l) at h)
+not-in-use st s l h = go (st .held s) (rw (lt-ltb s slotCount l) at h)
   where
     go : (o : Option (List ℕ)) → holding (λ t. true) o ≡ false → o ≡ none
     go none h = refl
     go (some t) h = clash (sym h)
 
-pub inserting-does : (T : Tables) (st : Store) (t : List ℕ) → Stand T st → Does (inserting T t) (answered st (insert t)) (after st (insert t))
-unfolding inserting after answered
-inserting-does T st t h =
+pub inserting-means : (T : Tables) (st : Store) (t : List ℕ) → Stand T st → Means (inserting T t) (answered st (insert t)) (after st (insert t))
+unfolding inserting insertAnswer after answered
+inserting-means T st t h =
     rw (stand-ample T st h, h .holds .signature, free-first (T .used) st (h .holds .words) (λ s l. stand-slots T st h s)) (go (eqb (refusal (st .signature) t) 0) refl)
   where
-    most : firstFree st ≤ 512
-    most = free-most st 512 0
+    most : firstFree st ≤ slotCount
+    most = free-most st slotCount 0
 
-    roomy : (b : Bool) → roomFor (T .link) (T .label) (upsOf (st .signature) t) (endsOf (st .signature) t) ≡ b → refusal (st .signature) t ≡ 0 → firstFree st < 512
-        → Does (pick b (done (firstFree st) (insertedAt T t (firstFree st))) (refusedBy 12 T)) (pick (pick b false true) (refused 12) (slot (firstFree st)))
-        (unless (pick (pick b false true) (refused 12) (slot (firstFree st))) st (put st (firstFree st) (some t)))
+    -- the tables with the term, and the store with it
+    new : Tables
+    new = insertedAt T t (firstFree st)
+
+    more : Store
+    more = put st (firstFree st) (some t)
+
+    B : Bool
+    B = roomFor (T .link) (T .label) (upsOf (st .signature) t) (endsOf (st .signature) t)
+
+    roomy : (b : Bool) → B ≡ b → refusal (st .signature) t ≡ 0 → firstFree st < slotCount
+        → Means (result (pick b (slot (firstFree st)) (refused 12)) T new) (pick (pick b false true) (refused 12) (slot (firstFree st)))
+        (unless (pick (pick b false true) (refused 12) (slot (firstFree st))) st more)
     roomy true e r l = record {
-      number = refl;
-      value = refl;
-      stand = put-held st (firstFree st) (some t) (insertedAt T t (firstFree st)) (h .signed)
-          (insert-holds T (st .signature) (st .held) t (firstFree st) (h .holds) r l (not-in-use st (firstFree st) l (free-is st 512 0 l)) e);
+      answer = refl;
+      stand = put-held st (firstFree st) (some t) new (h .signed)
+          (insert-holds T (st .signature) (st .held) t (firstFree st) (h .holds) r l (not-in-use st (firstFree st) l (free-is st slotCount 0 l)) e);
     }
-    roomy false e r l = does-refused 12 T st h
+    roomy false e r l = refused-means 12 T new st h
 
-    free : Dec (firstFree st < 512) → refusal (st .signature) t ≡ 0
-        → Does (pick (ltb (firstFree st) 512) (pick (roomFor (T .link) (T .label) (upsOf (st .signature) t) (endsOf (st .signature) t)) (done (firstFree st) (insertedAt T t (firstFree st))) (refusedBy 12 T)) (refusedBy 11 T))
-        (pick (eqb (firstFree st) 512) (refused 11) (pick (ltb 4096 (keyCount (put st (firstFree st) (some t)))) (refused 12) (slot (firstFree st))))
-        (unless (pick (eqb (firstFree st) 512) (refused 11) (pick (ltb 4096 (keyCount (put st (firstFree st) (some t)))) (refused 12) (slot (firstFree st)))) st (put st (firstFree st) (some t)))
+    free : Dec (firstFree st < slotCount) → refusal (st .signature) t ≡ 0
+        → Means (result (pick (ltb (firstFree st) slotCount) (pick B (slot (firstFree st)) (refused 12)) (refused 11)) T new)
+        (pick (eqb (firstFree st) slotCount) (refused 11) (pick (ltb keyLimit (keyCount more)) (refused 12) (slot (firstFree st))))
+        (unless (pick (eqb (firstFree st) slotCount) (refused 11) (pick (ltb keyLimit (keyCount more)) (refused 12) (slot (firstFree st)))) st more)
     free (yes l) r =
-        let m = room-test T st (firstFree st) t h l (not-in-use st (firstFree st) l (free-is st 512 0 l)) r in
-        rw (lt-ltb (firstFree st) 512 l, ne-eqb (firstFree st) 512 (λ z. omega arith), m) (roomy (roomFor (T .link) (T .label) (upsOf (st .signature) t) (endsOf (st .signature) t)) refl r l)
-    free (no l) r = rw (le-ltb (firstFree st) 512 (omega arith), eq-eqb (firstFree st) 512 (omega (arith, most))) (does-refused 11 T st h)
+        let m = room-test T st (firstFree st) t h l (not-in-use st (firstFree st) l (free-is st slotCount 0 l)) r in
+        rw (lt-ltb (firstFree st) slotCount l, ne-eqb (firstFree st) slotCount (λ z. omega arith), m) (roomy B refl r l)
+    free (no l) r = rw (le-ltb (firstFree st) slotCount (omega arith), eq-eqb (firstFree st) slotCount (omega (arith, most))) (refused-means 11 T new st h)
 
     go : (b : Bool) → eqb (refusal (st .signature) t) 0 ≡ b
-        → Does (pick b (pick (ltb (firstFree st) 512) (pick (roomFor (T .link) (T .label) (upsOf (st .signature) t) (endsOf (st .signature) t)) (done (firstFree st) (insertedAt T t (firstFree st))) (refusedBy 12 T)) (refusedBy 11 T)) (refusedBy (refusal (st .signature) t) T))
-        (pick b (pick (eqb (firstFree st) 512) (refused 11) (pick (ltb 4096 (keyCount (put st (firstFree st) (some t)))) (refused 12) (slot (firstFree st)))) (refused (refusal (st .signature) t)))
-        (unless (pick b (pick (eqb (firstFree st) 512) (refused 11) (pick (ltb 4096 (keyCount (put st (firstFree st) (some t)))) (refused 12) (slot (firstFree st)))) (refused (refusal (st .signature) t))) st (put st (firstFree st) (some t)))
-    go true e = free (decLt (firstFree st) 512) (eqb-true (refusal (st .signature) t) 0 e)
-    go false e = does-refused (refusal (st .signature) t) T st h
+        → Means (result (pick b (pick (ltb (firstFree st) slotCount) (pick B (slot (firstFree st)) (refused 12)) (refused 11)) (refused (refusal (st .signature) t))) T new)
+        (pick b (pick (eqb (firstFree st) slotCount) (refused 11) (pick (ltb keyLimit (keyCount more)) (refused 12) (slot (firstFree st)))) (refused (refusal (st .signature) t)))
+        (unless (pick b (pick (eqb (firstFree st) slotCount) (refused 11) (pick (ltb keyLimit (keyCount more)) (refused 12) (slot (firstFree st)))) (refused (refusal (st .signature) t))) st more)
+    go true e = free (decLt (firstFree st) slotCount) (eqb-true (refusal (st .signature) t) 0 e)
+    go false e = refused-means (refusal (st .signature) t) T new st h

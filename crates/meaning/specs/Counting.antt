@@ -1,4 +1,5 @@
--- Document 01, 'Numbers of refusal': the number of distinct keys of a store is the number that the key table counts by; refusal 12.
+-- SCOPE.md, 'Numbers of refusal': the number of distinct keys of a store is the number that the key table counts by;
+-- refusal 12.
 use Prim.Native.Nat.{ℕ, zero, suc, _+_, _≤_, _<_}
 use mathlib.Core.Path.{_≡_, refl, subst}
 use mathlib.Core.Logic.{_⊎_, _↔_, ⊎-elim}
@@ -14,16 +15,17 @@ use Rattle.laws.specs.Members.{In, in-append, in-left, in-right}
 use Rattle.keys.specs.Keys.{Place, Key, key}
 use Rattle.terms.specs.Terms.{refusal}
 use Rattle.definitions.specs.Spelt.{clash, keys-stand}
-use Rattle.definitions.specs.Store.{Store, keysIn, keysFrom, keysHeld, distinct, keyCount, put}
-use Rattle.definitions.specs.Readable.{distinct-in, distinct-nodup}
+use Rattle.library.specs.Store.{Store, keysIn, keysFrom, keysHeld, distinct, keyCount, put}
+use Rattle.library.specs.Readable.{distinct-in, distinct-nodup}
 use Rattle.paths.specs.Insert.{RK}
-use Rattle.paths.specs.Store.{Stored, KeyIn}
+use Rattle.paths.specs.StoredTrees.{Stored, KeyIn}
 use Rattle.paths.specs.Count.{Distinct}
 use Rattle.layout.specs.Tables.{Tables}
 use Rattle.store.specs.Tables.{upsOf, endsOf, roomFor}
-use Rattle.store.specs.Means.{treeIn, changed}
+use Rattle.store.specs.TablesHold.{treeIn, changed}
 use Rattle.store.specs.Changes.{KeysOf, room-means}
 use Rattle.meaning.specs.Stand.{Stand, treesOf}
+use Rattle.laws.specs.Sizes.{keyLimit, slotCount}
 
 module _ (st : Store) where
   -- a key of what a slot holds
@@ -46,25 +48,25 @@ module _ (st : Store) where
       go (yes q) ih = in-left (key P e) (keysIn (st .signature) (st .held s)) (keysFrom st k (suc s)) (in-keys (st .held s) P e .1 (rw q at h))
       go (no q) ih = in-right (key P e) (keysIn (st .signature) (st .held s)) (keysFrom st k (suc s)) (ih (omega arith))
 
-  slot-low : ((s : ℕ) → 512 ≤ s → st .held s ≡ none) → (u : ℕ) (K : Key) → RK (Stored (treesOf st)) u K → u < 512
-  slot-low b u (key P e) h = go (decLt u 512)
+  slot-low : ((s : ℕ) → slotCount ≤ s → st .held s ≡ none) → (u : ℕ) (K : Key) → RK (Stored (treesOf st)) u K → u < slotCount
+  slot-low b u (key P e) h = go (decLt u slotCount)
     where
-      go : Dec (u < 512) → u < 512
+      go : Dec (u < slotCount) → u < slotCount
       go (yes l) = l
       go (no l) = absurd (subst (λ (o : Option (List ℕ)). KeyIn (treeIn (st .signature) o) P e) (b u (omega arith)) h)
 
   -- the distinct keys of the stored terms are as many as keyCount says
-  pub key-count : ((s : ℕ) → 512 ≤ s → st .held s ≡ none) → Distinct (Stored (treesOf st)) (keyCount st)
+  pub key-count : ((s : ℕ) → slotCount ≤ s → st .held s ≡ none) → Distinct (Stored (treesOf st)) (keyCount st)
   key-count b = record {
     keys = distinct (keysHeld st);
     nodup = distinct-nodup (keysHeld st);
-    from = λ K i. keys-from 512 0 K (distinct-in K (keysHeld st) .0 i);
-    into = λ u K h. distinct-in K (keysHeld st) .1 (into-keys 512 0 K u (omega arith) (omega (arith, slot-low b u K h)) h);
+    from = λ K i. keys-from slotCount 0 K (distinct-in K (keysHeld st) .0 i);
+    into = λ u K h. distinct-in K (keysHeld st) .1 (into-keys slotCount 0 K u (omega arith) (omega (arith, slot-low b u K h)) h);
     many = refl;
   }
 
 -- REFUSAL 12: the table's test for free keys is the store's test of its number of distinct keys
-put-bounded : (T : Tables) (st : Store) (s : ℕ) (o : Option (List ℕ)) → Stand T st → s < 512 → (u : ℕ) → 512 ≤ u → put st s o .held u ≡ none
+put-bounded : (T : Tables) (st : Store) (s : ℕ) (o : Option (List ℕ)) → Stand T st → s < slotCount → (u : ℕ) → slotCount ≤ u → put st s o .held u ≡ none
 unfolding put
 put-bounded T st s o h l u g = rw (ne-eqb u s (λ q. omega arith)) (h .holds .beyond u g)
 
@@ -72,17 +74,17 @@ put-keys : (st : Store) (s : ℕ) (t : List ℕ) → Distinct (Stored (treesOf (
 unfolding put changed
 put-keys st s t d = d
 
-pub room-test : (T : Tables) (st : Store) (s : ℕ) (t : List ℕ) → Stand T st → s < 512 → st .held s ≡ none → refusal (st .signature) t ≡ 0
-    → ltb 4096 (keyCount (put st s (some t))) ≡ pick (roomFor (T .link) (T .label) (upsOf (st .signature) t) (endsOf (st .signature) t)) false true
+pub room-test : (T : Tables) (st : Store) (s : ℕ) (t : List ℕ) → Stand T st → s < slotCount → st .held s ≡ none → refusal (st .signature) t ≡ 0
+    → ltb keyLimit (keyCount (put st s (some t))) ≡ pick (roomFor (T .link) (T .label) (upsOf (st .signature) t) (endsOf (st .signature) t)) false true
 room-test T st s t h l e r =
     let N = keyCount (put st s (some t)) in
     let d = put-keys st s t (key-count (put st s (some t)) (put-bounded T st s (some t) h l)) in
     go (roomFor (T .link) (T .label) (upsOf (st .signature) t) (endsOf (st .signature) t)) N (room-means T (st .signature) (st .held) t s N (h .holds) r e d)
   where
-    go : (b : Bool) (n : ℕ) → (b ≡ true) ↔ (n ≤ 4096) → ltb 4096 n ≡ pick b false true
-    go true n k = le-ltb 4096 n (k .0 refl)
-    go false n k = lt-ltb 4096 n (more (decLt 4096 n))
+    go : (b : Bool) (n : ℕ) → (b ≡ true) ↔ (n ≤ keyLimit) → ltb keyLimit n ≡ pick b false true
+    go true n k = le-ltb keyLimit n (k .0 refl)
+    go false n k = lt-ltb keyLimit n (more (decLt keyLimit n))
       where
-        more : Dec (4096 < n) → 4096 < n
+        more : Dec (keyLimit < n) → keyLimit < n
         more (yes q) = q
         more (no q) = clash (k .1 (omega arith))

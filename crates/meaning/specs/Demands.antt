@@ -1,19 +1,23 @@
--- THE THREE DEMANDS that document 01 names ('What the contracts owe'), in the words of README.md, 'What it promises', over every run
--- of calls: an opening, from any memory, and then any calls with any arguments, refused ones too.
+-- THE THREE DEMANDS (SCOPE.md, 'What the contracts owe'), in the words of README.md, 'What it promises', over every
+-- run of calls: an opening, from any memory, and then any calls with any arguments, refused ones too.
 --
--- How to read it. T and S are the eight lent tables whole, before and after a call; out₀ and out the answer buffer before and after;
--- st a store; c a call; r its reply: the number of the refusal or 0, and up to two numbers more (retrieve: candidates, answers; solve:
--- fields, bytes; the others: the slot or the count). `(x : A) × B` says that there is such an x, `↔` exactly when, `→ ⊥` not.
--- `Called` is a call of the very functions that the programs call: each case has the `ensures` of that function (Runs.antt).
--- `Store`, `answered` and `after` are document 01's library as functions on stores (definitions/specs/Store.antt), and
--- definitions/specs/Readable.antt says what they compute in document 01's words; Applies.antt there is its table of refusals.
--- `refusal sig t ≡ 0` says that t is a term (definitions/specs/Spelt.antt, term-tree and tree-term). What follows an `=` is proof,
--- and need not be read.
+-- How to read it. T is the eight lent tables whole and out₀ the answer buffer before a call c; o is what comes out of
+-- it: the number of the refusal or 0, up to two numbers more (retrieve: candidates, answers; solve: fields, bytes;
+-- the others: the slot or the count), the tables and the buffer afterwards; st is a store. `(x : A) × B` says that
+-- there is such an x, `↔` exactly when, `→ ⊥` not. `Called T out₀ c o` is a call of the very functions that the
+-- programs call: `o ≡ ..` is the `ensures` of that function (Runs.antt). What C and Rust call has `Tells` as its
+-- contract, and is such a call too (`exported` at the end): all that is said here is said of it. `Store`, `answered`
+-- and `after` are the library as functions on stores (library/specs/Store.antt), and library/specs/Readable.antt says
+-- what they compute in the scope's words; library/specs/Applies.antt is its table of refusals. `refusal sig t ≡ 0`
+-- says that t is a term (definitions/specs/Spelt.antt, term-tree and tree-term). What follows an `=` is proof, and
+-- need not be read.
 --
--- That every call ends and does nothing undefined, on all bytes, numbers and lengths, is what it means that the functions are proved
--- at all: none of the six asks anything of its caller, and the prover takes a function only with its ending, its indices and its
--- arithmetic shown; so every call has an outcome. The checks of a signature and of a term and the argument of a term, with refusal
--- 10, are calls without tables and have their contracts in terms (sigRefusal, refusal, argRefusal); 16 is the log program's (replay).
+-- That every call ends and does nothing undefined, on all bytes, numbers and lengths, is what it means that the
+-- functions are proved at all: none of the six asks anything of its caller, and the prover takes a function only with
+-- its ending, its indices and its arithmetic shown; so every call has an outcome, and only one
+-- (calls/specs/Outcome.antt, outcome-one). The checks of a signature and of a term and the argument of a term, with
+-- refusal 10, are calls without tables and have their contracts in terms (sigRefusal, refusal, argRefusal); 16 is the
+-- log program's (replay).
 use Prim.Native.Nat.{ℕ, _*_, _≤_, _<_}
 use mathlib.Core.Path.{_≡_, sym, ap, _∙_}
 use mathlib.Core.Logic.{_≢_, _↔_, Iff·trans}
@@ -21,201 +25,241 @@ use mathlib.Core.Bool.{true, false}
 use mathlib.Core.Option.{some}
 use mathlib.Core.List.{List, _++_}
 use native.Mathlib.Omega.{arith}
+use borrow.Author.Tests.{eq-eqb, ne-eqb}
 use lib.ListN.{length, drop}
 use lib.Seq.{sets}
 use Rattle.laws.specs.Members.{In, NoDup}
 use Rattle.terms.specs.declared.Refusal.{Refusal}
-use Rattle.terms.specs.Refusals.{numberOf}
+use Rattle.terms.specs.Refusals.{numberOf, rank}
 use Rattle.terms.specs.Numbers.{number-some}
-use Rattle.terms.specs.Conditions.{Lowest}
+use Rattle.definitions.specs.Ranks.{First}
 use Rattle.terms.specs.Terms.{sigRefusal, refusal}
-use Rattle.keys.specs.Bytes.{isKey}
 use Rattle.theory.specs.Relations.{Unifiable}
-use Rattle.layout.specs.Tables.{Tables, ample}
-use Rattle.definitions.specs.Trees.{treeOf}
-use Rattle.definitions.specs.Formulas.{formula, trees}
-use Rattle.definitions.specs.Relations.{Stands}
-use Rattle.definitions.specs.Records.{Unifier, IsRecord, Short}
 use Rattle.theory.specs.Flat.{Item}
 use Rattle.theory.specs.Items.{items, shift}
-use Rattle.slots.specs.Slots.{members, listed}
-use Rattle.retrieve.specs.Retrieving.{candidatesOf}
+use Rattle.layout.specs.Tables.{Tables, ample}
+use Rattle.definitions.specs.Trees.{treeOf}
+use Rattle.definitions.specs.Relations.{Stands}
+use Rattle.definitions.specs.Records.{Unifier, IsRecord, Short}
 use Rattle.definitions.specs.ReadBack.{Reads, readFields}
-use Rattle.definitions.specs.Sound.{Sound}
-use Rattle.definitions.specs.Applies.{Applies, AppliesNumber}
-use Rattle.definitions.specs.AppliesLowest.{refused-lowest, refused-exactly}
-use Rattle.definitions.specs.Readable.{Ascending, ascending-nodup, answers-are, answers-ascend, candidates-are, candidates-ascend, solve-none, solve-long, solve-writes, solve-solved}
-use Rattle.definitions.specs.Store.{Store, Call, Answer, refused, answered, empty, after, openWith, withKey, retrieve, solve, keyed, answers, candidates as candidatesIn, written}
-use Rattle.meaning.specs.Stand.{Stand, stand-ample, stand-sound}
+use Rattle.definitions.specs.Answers.{Answer, refused, refusalIn, firstIn, secondIn, written}
+use Rattle.slots.specs.Slots.{members, listed}
+use Rattle.library.specs.Formulas.{formula, trees}
+use Rattle.library.specs.Sound.{Sound}
+use Rattle.library.specs.Applies.{Applies, AppliesNumber}
+use Rattle.library.specs.AppliesFirst.{refused-is, refused-first, refused-exactly}
+use Rattle.library.specs.Readable.{Ascending, ascending-nodup, answers-are, answers-ascend, candidates-are, candidates-ascend, solve-none, solve-long, solve-writes, solve-solved}
+use Rattle.library.specs.Store.{Store, Call, roomOf, answered, empty, after, openWith, retrieve, solve, answers, candidates as candidatesIn}
+use Rattle.calls.specs.Outcome.{Outcome, Result, told}
+use Rattle.retrieve.specs.Retrieving.{candidatesOf}
+use Rattle.meaning.specs.Stand.{Stand, Means, stand-ample, stand-sound}
 use Rattle.meaning.specs.Confirmed.{candidates-are as walked-are}
-use Rattle.meaning.specs.Means.{call-means}
-use Rattle.meaning.specs.Quiet.{quiet}
-use Rattle.meaning.specs.Lengths.{short-exactly}
+use Rattle.meaning.specs.CallsMean.{call-means}
+use Rattle.meaning.specs.Carried.{quiet, short-exactly}
 use Rattle.meaning.specs.Opening.{open-number, open-run}
-use Rattle.meaning.specs.Told.{front-bytes, reply-refusal, refused-number, retrieve-found, solve-found, room-key, room-of, room-solve}
-use Rattle.meaning.specs.Room.{key-room, retrieve-room, solve-room}
-use Rattle.meaning.specs.Runs.{Reply, replyOf, Called, Run, opened, called}
+use Rattle.meaning.specs.Told.{front-bytes, retrieve-found, solve-found}
+use Rattle.meaning.specs.Runs.{carried, Called, Tells, toldNumber, Run, opened, called}
+
+-- the numbers and the bytes of an answer
+pub record Said (a : Answer) (out₀ : List ℕ) (o : Outcome) : Type 0 where
+  pub number : o .refused ≡ refusalIn a
+  pub first : o .first ≡ firstIn a
+  pub second : o .second ≡ secondIn a
+  -- the first bytes of the buffer, and no other byte is changed
+  pub bytes : o .out ≡ sets out₀ 0 (written a)
+
+said : (T : Tables) (st : Store) (c : Call) (out₀ : List ℕ) (o : Outcome)
+    → Means (carried T c) (answered st c) (after st c) → Called T out₀ c o → Said (answered st c) out₀ o
+said T st c out₀ o m d = record {
+  number = ap (λ (x : Outcome). x .refused) (d .is) ∙ ap refusalIn (m .answer);
+  first = ap (λ (x : Outcome). x .first) (d .is) ∙ ap firstIn (m .answer);
+  second = ap (λ (x : Outcome). x .second) (d .is) ∙ ap secondIn (m .answer);
+  bytes = ap (λ (x : Outcome). x .out) (d .is) ∙ ap (λ (a : Answer). sets out₀ 0 (written a)) (m .answer);
+}
 
 -- the tables stand for the store that the run leads to
+stands-after : (S S′ : Tables) (st : Store) → S ≡ S′ → Stand S′ st → Stand S st
+stands-after S S′ st e h = rw e h
+
 run-stands : (T : Tables) (st : Store) → Run T st → Stand T st
-run-stands T st (opened X S sig out₀ out r c z) = open-run X S sig out₀ out r c z
-run-stands T st (called X S st₀ c out₀ out r k d) = call-means X S st₀ c out₀ out r (run-stands X st₀ k) d .stand
+run-stands T st (opened X sig out₀ o c z) = open-run X sig out₀ o c z
+run-stands T st (called X st₀ c out₀ o k d) =
+    stands-after (o .after) (carried X c .after) (after st₀ c) (ap (λ (x : Outcome). x .after) (d .is)) (call-means X st₀ c (run-stands X st₀ k) .stand)
 
 run-sound : (T : Tables) (st : Store) → Run T st → Sound st
 run-sound T st k = stand-sound T st (run-stands T st k)
 
--- DEMAND 1. 'Each refusal is given exactly under its stated condition, with its number, and changes no byte of tables or answer
--- buffer': the reply is the store's answer to the call, and the buffer has the answer's bytes in front and no other byte changed.
-pub demand-1 : (T S : Tables) (st : Store) (c : Call) (out₀ out : List ℕ) (r : Reply) → Run T st → Called T out₀ c S out r
-    → (r ≡ replyOf (answered st c)) × (out ≡ sets out₀ 0 (written (answered st c)))
-demand-1 T S st c out₀ out r k d = let m = call-means T S st c out₀ out r (run-stands T st k) d in (m .reply, m .bytes)
+-- DEMAND 1. 'Each refusal is given exactly under its stated condition, with its number, and changes no byte of tables
+-- or answer buffer': what comes out is the store's answer to the call, and the buffer has the answer's bytes in front
+-- and no other byte changed
+pub demand-1 : (T : Tables) (st : Store) (c : Call) (out₀ : List ℕ) (o : Outcome) → Run T st → Called T out₀ c o
+    → Said (answered st c) out₀ o
+demand-1 T st c out₀ o k d = said T st c out₀ o (call-means T st c (run-stands T st k)) d
 
 -- a refused call changes nothing, on all tables
-pub demand-1-quiet : (T S : Tables) (c : Call) (out₀ out : List ℕ) (r : Reply) → Called T out₀ c S out r → r .refused ≢ 0 → (S ≡ T) × (out ≡ out₀)
-demand-1-quiet T S c out₀ out r d n = quiet T S c out₀ out r d n
+pub demand-1-quiet : (T : Tables) (c : Call) (out₀ : List ℕ) (o : Outcome) → Called T out₀ c o → o .refused ≢ 0
+    → (o .after ≡ T) × (o .out ≡ out₀)
+demand-1-quiet T c out₀ o d n = quiet T c out₀ o d n
 
--- refusal 1, on all tables: exactly where one is short (docs/TABLES.md has the lengths), whatever they hold; the tables of a run are
--- never short, so that demand-1 has all its numbers
-pub demand-1-table : (T S : Tables) (c : Call) (out₀ out : List ℕ) (r : Reply) → Called T out₀ c S out r → (r .refused ≡ 1) ↔ (ample T ≡ false)
-demand-1-table T S c out₀ out r d = short-exactly T S c out₀ out r d
+-- refusal 1, on all tables: exactly where one is short (docs/TABLES.md has the lengths), whatever they hold; the
+-- tables of a run are never short, so that demand-1 has all its numbers
+pub demand-1-table : (T : Tables) (c : Call) (out₀ : List ℕ) (o : Outcome) → Called T out₀ c o
+    → (o .refused ≡ 1) ↔ (ample T ≡ false)
+demand-1-table T c out₀ o d = short-exactly T c out₀ o d
 
 pub demand-1-run : (T : Tables) (st : Store) → Run T st → ample T ≡ true
 demand-1-run T st k = stand-ample T st (run-stands T st k)
 
--- 'opening keeps its full promise on all memory': it is refused exactly where its signature is, and else a run begins; so a library
--- that refuses everything is none
-pub demand-1-open : (T S : Tables) (sig out₀ out : List ℕ) (r : Reply) → Called T out₀ (openWith sig) S out r → ample T ≡ true → r .refused ≡ sigRefusal sig
-demand-1-open T S sig out₀ out r d a = open-number T S sig out₀ out r a d
+-- 'opening keeps its full promise on all memory': it is refused exactly where its signature is, and else a run
+-- begins; so a library that refuses everything is none
+pub demand-1-open : (T : Tables) (sig out₀ : List ℕ) (o : Outcome) → Called T out₀ (openWith sig) o → ample T ≡ true
+    → o .refused ≡ sigRefusal sig
+demand-1-open T sig out₀ o d a = open-number T sig out₀ o a d
 
-pub demand-1-begins : (T S : Tables) (sig out₀ out : List ℕ) (r : Reply) → Called T out₀ (openWith sig) S out r → ample T ≡ true → sigRefusal sig ≡ 0 → Run S (empty sig)
-demand-1-begins T S sig out₀ out r d a z = opened T S sig out₀ out r d (open-number T S sig out₀ out r a d ∙ z)
+pub demand-1-begins : (T : Tables) (sig out₀ : List ℕ) (o : Outcome) → Called T out₀ (openWith sig) o
+    → ample T ≡ true → sigRefusal sig ≡ 0
+    → Run (o .after) (empty sig)
+demand-1-begins T sig out₀ o d a z = opened T sig out₀ o d (open-number T sig out₀ o a d ∙ z)
 
 -- on a run, a number is given exactly where the store's answer is that refusal
-pub demand-1-number : (T S : Tables) (st : Store) (c : Call) (out₀ out : List ℕ) (r : Reply) (n : ℕ) → Run T st → Called T out₀ c S out r → n ≢ 0
-    → (r .refused ≡ n) ↔ (answered st c ≡ refused n)
-demand-1-number T S st c out₀ out r n k d z =
-    let m = call-means T S st c out₀ out r (run-stands T st k) d in
-    ((λ e. refused-number (answered st c) n z (sym (ap (λ (x : Reply). x .refused) (m .reply)) ∙ e)), (λ e. ap (λ (x : Reply). x .refused) (m .reply ∙ ap replyOf e)))
+pub demand-1-number : (T : Tables) (st : Store) (c : Call) (out₀ : List ℕ) (o : Outcome) (n : ℕ) → Run T st
+    → Called T out₀ c o → n ≢ 0
+    → (o .refused ≡ n) ↔ (answered st c ≡ refused n)
+demand-1-number T st c out₀ o n k d z =
+    let m = demand-1 T st c out₀ o k d in
+    ((λ e. refused-is (answered st c) n z (sym (m .number) ∙ e)), (λ e. m .number ∙ ap refusalIn e))
 
--- on a run, the number given is the lowest of the refusals that apply, by the table of refusals (definitions/specs/Applies.antt), and 0
--- where none applies: a number is given exactly when its refusal applies and none with a lower number does
-pub demand-1-lowest : (T S : Tables) (st : Store) (c : Call) (out₀ out : List ℕ) (r : Reply) → Run T st → Called T out₀ c S out r → Lowest (AppliesNumber st c) (r .refused)
-demand-1-lowest T S st c out₀ out r k d =
-    let m = call-means T S st c out₀ out r (run-stands T st k) d in
-    rw (ap (λ (x : Reply). x .refused) (m .reply) ∙ reply-refusal (answered st c)) (refused-lowest st (run-sound T st k) c)
+-- on a run, of the refusals that apply, by the table of refusals (library/specs/Applies.antt), the first in rank is
+-- given, and 0 where none applies: a number is given exactly when its refusal applies and none before it in rank
+-- does. With this 15, ROOM, is given exactly where the buffer is shorter than the answer and nothing before it
+-- applies.
+pub demand-1-first : (T : Tables) (st : Store) (c : Call) (out₀ : List ℕ) (o : Outcome) → Run T st → Called T out₀ c o
+    → First (AppliesNumber st c) (o .refused)
+demand-1-first T st c out₀ o k d = rw (demand-1 T st c out₀ o k d .number) (refused-first st (run-sound T st k) c)
 
-pub demand-1-exactly : (T S : Tables) (st : Store) (c : Call) (out₀ out : List ℕ) (r : Reply) (why : Refusal) → Run T st → Called T out₀ c S out r
-    → (r .refused ≡ numberOf why) ↔ (Applies st c why × ((w : Refusal) → Applies st c w → numberOf why ≤ numberOf w))
-demand-1-exactly T S st c out₀ out r why k d =
-    Iff·trans (demand-1-number T S st c out₀ out r (numberOf why) k d (number-some why)) (refused-exactly st (run-sound T st k) c why)
+pub demand-1-exactly : (T : Tables) (st : Store) (c : Call) (out₀ : List ℕ) (o : Outcome) (why : Refusal) → Run T st
+    → Called T out₀ c o
+    → (o .refused ≡ numberOf why) ↔
+    (Applies st c why × ((w : Refusal) → Applies st c w → rank (numberOf why) ≤ rank (numberOf w)))
+demand-1-exactly T st c out₀ o why k d =
+    Iff·trans (demand-1-number T st c out₀ o (numberOf why) k d (number-some why)) (refused-exactly st (run-sound T st k) c why)
 
--- refusal 15, 'the answer buffer is shorter than the answer', where no lower number is given. The answers and the slots with a key
--- are each slot once (answers-are, answers-ascend, keyed-are, keyed-ascend in Readable), two bytes a slot.
-pub demand-1-room-key : (T S : Tables) (st : Store) (room : ℕ) (key out₀ out : List ℕ) (r : Reply) → Run T st → Called T out₀ (withKey key room) S out r
-    → (r .refused ≡ 15) ↔ ((isKey (st .signature) key ≡ true) × (length out₀ < 2 * length (keyed st key)))
-demand-1-room-key T S st room key out₀ out r k d =
-    rw (← room-key T S out₀ room key out r d) (Iff·trans (demand-1-number T S st (withKey key room) out₀ out r 15 k d (λ z. omega arith)) (key-room st room key))
-
-pub demand-1-room-retrieve : (T S : Tables) (st : Store) (relation room : ℕ) (q out₀ out : List ℕ) (r : Reply) → Run T st → Called T out₀ (retrieve relation q room) S out r
-    → (r .refused ≡ 15) ↔ ((relation ≤ 4) × (refusal (st .signature) q ≡ 0) × (length out₀ < 2 * length (answers st relation q)))
-demand-1-room-retrieve T S st relation room q out₀ out r k d =
-    rw (← room-of T S out₀ relation room q out r d) (Iff·trans (demand-1-number T S st (retrieve relation q room) out₀ out r 15 k d (λ z. omega arith)) (retrieve-room st room relation q))
-
-pub demand-1-room-solve : (T S : Tables) (st : Store) (s room : ℕ) (q out₀ out : List ℕ) (r : Reply) → Run T st → Called T out₀ (solve s q room) S out r
-    → (r .refused ≡ 15)
-    ↔ ((t : List ℕ) × (w : List ℕ) × (i : IsRecord (st .signature) t q w) × (st .held s ≡ some t) × (refusal (st .signature) q ≡ 0) × Short (i .by) × (length out₀ < length w))
-demand-1-room-solve T S st s room q out₀ out r k d =
-    rw (← room-solve T S out₀ s room q out r d) (Iff·trans (demand-1-number T S st (solve s q room) out₀ out r 15 k d (λ z. omega arith)) (solve-room st room (run-sound T st k) s q))
-
--- DEMAND 2. 'After any run of opening, inserts and deletes, a retrieval lists exactly the slots whose term stands in the asked
--- relation, each once, ascending. The candidates before confirmation are those of the path formulas of SRI Technical Note 473.'
-pub record Retrieval (st : Store) (relation : ℕ) (q out₀ out : List ℕ) (r : Reply) : Type 0 where
+-- DEMAND 2. 'After any run of opening, inserts and deletes, a retrieval lists exactly the slots whose term stands in
+-- the asked relation, each once, ascending. The candidates before confirmation are those of the path formulas of SRI
+-- Technical Note 473.'
+pub record Retrieval (st : Store) (relation : ℕ) (q out₀ : List ℕ) (o : Outcome) : Type 0 where
   -- the slots, each once, ascending
   pub slots : List ℕ
   pub ascending : Ascending slots
   pub exactly : (s : ℕ) → In s slots ↔ ((t : List ℕ) × (st .held s ≡ some t) × Stands (st .signature) relation t q)
   -- their number, and their listing in the first bytes of the buffer, no byte beyond
-  pub number : r .second ≡ length slots
-  pub bytes : out ≡ listed slots ++ drop (length (listed slots)) out₀
+  pub number : o .second ≡ length slots
+  pub bytes : o .out ≡ listed slots ++ drop (length (listed slots)) out₀
   -- the slots that the formula of the relation gives, each once: as many as the first number says
   pub candidates : List ℕ
   pub distinct : NoDup candidates
-  pub formulas : (s : ℕ) → In s candidates ↔ (formula relation (trees (st .signature) (st .held)) (treeOf (st .signature) q) s ≡ true)
-  pub count : r .first ≡ length candidates
+  pub formulas : (s : ℕ)
+      → In s candidates ↔ (formula relation (trees (st .signature) (st .held)) (treeOf (st .signature) q) s ≡ true)
+  pub count : o .first ≡ length candidates
 
-pub demand-2 : (T S : Tables) (st : Store) (relation room : ℕ) (q out₀ out : List ℕ) (r : Reply) → Run T st → Called T out₀ (retrieve relation q room) S out r → r .refused ≡ 0
-    → Retrieval st relation q out₀ out r
-demand-2 T S st relation room q out₀ out r k d z =
-    let h = run-stands T st k in
+pub demand-2 : (T : Tables) (st : Store) (relation room : ℕ) (q out₀ : List ℕ) (o : Outcome) → Run T st
+    → Called T out₀ (retrieve relation q room) o
+    → o .refused ≡ 0 → Retrieval st relation q out₀ o
+demand-2 T st relation room q out₀ o k d z =
     let g = run-sound T st k in
-    let m = call-means T S st (retrieve relation q room) out₀ out r h d in
-    let w = retrieve-found st relation room q (sym (ap (λ (x : Reply). x .refused) (m .reply)) ∙ z) in
-    let e = m .reply ∙ ap replyOf (w .is) in
+    let m = demand-1 T st (retrieve relation q room) out₀ o k d in
+    let w = retrieve-found st relation room q (sym (m .number) ∙ z) in
     record {
       slots = answers st relation q;
       ascending = answers-ascend st g relation q;
       exactly = answers-are st g relation q (w .checked);
-      number = ap (λ (x : Reply). x .second) e;
-      bytes = m .bytes ∙ ap (λ (a : Answer). sets out₀ 0 (written a)) (w .is) ∙ front-bytes (listed (answers st relation q)) out₀ (let l = w .fits in omega (arith, l, room-of T S out₀ relation room q out r d));
+      number = m .second ∙ ap secondIn (w .is);
+      bytes = m .bytes ∙ ap (λ (a : Answer). sets out₀ 0 (written a)) (w .is) ∙ front-bytes (listed (answers st relation q)) out₀ (let l = w .fits in omega (arith, l, d .room));
       candidates = candidatesIn st relation q;
       distinct = ascending-nodup (candidatesIn st relation q) (candidates-ascend st g relation q);
       formulas = candidates-are st g relation q (w .checked);
-      count = ap (λ (x : Reply). x .first) e;
+      count = m .first ∙ ap firstIn (w .is);
     }
 
 -- the candidates themselves: the set that the walk through the tables leaves for confirmation is the formula's
-pub demand-2-candidates : (T : Tables) (st : Store) (relation : ℕ) (q : List ℕ) → Run T st → refusal (st .signature) q ≡ 0 → (s : ℕ)
-    → In s (members (candidatesOf T relation q)) ↔ (formula relation (trees (st .signature) (st .held)) (treeOf (st .signature) q) s ≡ true)
+pub demand-2-candidates : (T : Tables) (st : Store) (relation : ℕ) (q : List ℕ) → Run T st
+    → refusal (st .signature) q ≡ 0 → (s : ℕ)
+    → In s (members (candidatesOf T relation q)) ↔
+    (formula relation (trees (st .signature) (st .held)) (treeOf (st .signature) q) s ≡ true)
 demand-2-candidates T st relation q k c s =
     rw (walked-are T st (run-stands T st k) relation q c) (candidates-are st (run-sound T st k) relation q c s)
 
--- DEMAND 3. '"No unifier" is answered exactly when there is none, of terms however large. Otherwise the record written is the most
--- general unifier: it makes both terms the same, is idempotent, and every unifier factors through it.'
-pub demand-3-none : (T S : Tables) (st : Store) (s room : ℕ) (t q out₀ out : List ℕ) (r : Reply) → Run T st → st .held s ≡ some t → refusal (st .signature) q ≡ 0
-    → Called T out₀ (solve s q room) S out r → (r .refused ≡ 13) ↔ (Unifiable (st .signature) t q → ⊥)
-demand-3-none T S st s room t q out₀ out r k e c d =
-    Iff·trans (demand-1-number T S st (solve s q room) out₀ out r 13 k d (λ z. omega arith)) (solve-none st (run-sound T st k) s t e q c room)
-
--- 'however large': no size occurs here. A stored term and a question have 1 to 32 items; values may have any size, and one of over
--- 2,048 items is refusal 14, never 13.
--- What stands in the buffer: n bytes of a record, which read back as fields are the unifier (`Reads`: the three properties, the
--- variables ascending, each occurring in one of the terms, none with itself as value), and nothing beyond them is changed
-pub record Solution (sig t q out₀ out : List ℕ) (r : Reply) : Type 0 where
+-- DEMAND 3. '"No unifier" is answered exactly when there is none, of terms however large. Otherwise the record
+-- written is the most general unifier: it makes both terms the same, is idempotent, and every unifier factors through
+-- it.' 'However large': no size occurs here. A stored term and a question have 1 to 32 items; values may have any
+-- size, and one of over 2,048 items is refusal 14, never 13. What stands in the buffer: n bytes of a record, which
+-- read back as fields are the unifier (`Reads`: the three properties, the variables ascending, each occurring in one
+-- of the terms, none with itself as value), and nothing beyond them is changed
+pub record Solution (sig t q out₀ : List ℕ) (o : Outcome) : Type 0 where
   pub record-bytes : List ℕ
-  pub bytes : out ≡ record-bytes ++ drop (length record-bytes) out₀
-  pub length-told : r .second ≡ length record-bytes
+  pub bytes : o .out ≡ record-bytes ++ drop (length record-bytes) out₀
+  pub length-told : o .second ≡ length record-bytes
   pub is : IsRecord sig t q record-bytes
   pub reads : Reads sig t q (readFields record-bytes)
-  pub fields : r .first ≡ length (readFields record-bytes)
+  pub fields : o .first ≡ length (readFields record-bytes)
   -- no value has over 2,048 items
   pub short : Short (is .by)
 
-pub demand-3 : (T S : Tables) (st : Store) (s room : ℕ) (t q out₀ out : List ℕ) (r : Reply) → Run T st → st .held s ≡ some t → refusal (st .signature) q ≡ 0
-    → Called T out₀ (solve s q room) S out r → r .refused ≡ 0 → Solution (st .signature) t q out₀ out r
-demand-3 T S st s room t q out₀ out r k e c d z =
-    let m = call-means T S st (solve s q room) out₀ out r (run-stands T st k) d in
-    let w = solve-found st (run-sound T st k) s room t q e c (sym (ap (λ (x : Reply). x .refused) (m .reply)) ∙ z) in
-    let v = solve-solved st (run-sound T st k) s t e q c room (w .fields) (w .bytes) (w .is) in
-    let p = m .reply ∙ ap replyOf (w .is) in
-    record {
-      record-bytes = w .bytes;
-      bytes = m .bytes ∙ ap (λ (a : Answer). sets out₀ 0 (written a)) (w .is) ∙ front-bytes (w .bytes) out₀ (let l = v .fits in omega (arith, l, room-solve T S out₀ s room q out r d));
-      length-told = ap (λ (x : Reply). x .second) p;
-      is = v .is;
-      reads = v .reads;
-      fields = ap (λ (x : Reply). x .first) p ∙ v .count;
-      short = v .short;
-    }
+-- solve, for a slot that holds t and a question that is a term
+module _ (T : Tables) (st : Store) (s room : ℕ) (t q out₀ : List ℕ) (o : Outcome) (k : Run T st) (e : st .held s ≡ some t)
+    (c : refusal (st .signature) q ≡ 0) (d : Called T out₀ (solve s q room) o) where
+  pub demand-3-none : (o .refused ≡ 13) ↔ (Unifiable (st .signature) t q → ⊥)
+  demand-3-none = Iff·trans (demand-1-number T st (solve s q room) out₀ o 13 k d (λ z. omega arith)) (solve-none st (run-sound T st k) s t e q c room)
 
--- and it is written unless a value is too long or the buffer too short: 14 exactly where some value has over 2,048 items
-pub demand-3-long : (T S : Tables) (st : Store) (s room : ℕ) (t q out₀ out : List ℕ) (r : Reply) → Run T st → st .held s ≡ some t → refusal (st .signature) q ≡ 0
-    → Called T out₀ (solve s q room) S out r → (r .refused ≡ 14) ↔ ((θ : ℕ → List Item) × Unifier (st .signature) (items t) (shift 32 (items q)) θ × (Short θ → ⊥))
-demand-3-long T S st s room t q out₀ out r k e c d =
-    Iff·trans (demand-1-number T S st (solve s q room) out₀ out r 14 k d (λ z. omega arith)) (solve-long st (run-sound T st k) s t e q c room)
+  pub demand-3 : o .refused ≡ 0 → Solution (st .signature) t q out₀ o
+  demand-3 z =
+      let m = demand-1 T st (solve s q room) out₀ o k d in
+      let w = solve-found st (run-sound T st k) s room t q e c (sym (m .number) ∙ z) in
+      let v = solve-solved st (run-sound T st k) s t e q c room (w .fields) (w .bytes) (w .is) in
+      record {
+        record-bytes = w .bytes;
+        bytes = m .bytes ∙ ap (λ (a : Answer). sets out₀ 0 (written a)) (w .is) ∙ front-bytes (w .bytes) out₀ (let l = v .fits in omega (arith, l, d .room));
+        length-told = m .second ∙ ap secondIn (w .is);
+        is = v .is;
+        reads = v .reads;
+        fields = m .first ∙ ap firstIn (w .is) ∙ v .count;
+        short = v .short;
+      }
 
--- a record that is short and fits is written; one that does not fit is refused with 15 (demand-1-room-solve)
-pub demand-3-written : (T S : Tables) (st : Store) (s room : ℕ) (t q out₀ out w : List ℕ) (r : Reply) → Run T st → st .held s ≡ some t → refusal (st .signature) q ≡ 0
-    → Called T out₀ (solve s q room) S out r → (i : IsRecord (st .signature) t q w) → Short (i .by) → length w ≤ length out₀ → r .refused ≡ 0
-demand-3-written T S st s room t q out₀ out w r k e c d i h l =
-    let m = call-means T S st (solve s q room) out₀ out r (run-stands T st k) d in
-    ap (λ (x : Reply). x .refused) (m .reply ∙ ap replyOf (solve-writes st (run-sound T st k) s t e q c room w i h (omega (arith, l, room-solve T S out₀ s room q out r d))))
+  -- and it is written unless a value is too long or the buffer too short: 14 exactly where some value has over 2,048
+  -- items
+  pub demand-3-long : (o .refused ≡ 14) ↔
+      ((θ : ℕ → List Item) × Unifier (st .signature) (items t) (shift 32 (items q)) θ × (Short θ → ⊥))
+  demand-3-long = Iff·trans (demand-1-number T st (solve s q room) out₀ o 14 k d (λ z. omega arith)) (solve-long st (run-sound T st k) s t e q c room)
+
+  -- a record that is short and fits is written
+  pub demand-3-written : (w : List ℕ) (i : IsRecord (st .signature) t q w) → Short (i .by) → length w ≤ length out₀
+      → o .refused ≡ 0
+  demand-3-written w i h l =
+      demand-1 T st (solve s q room) out₀ o k d .number ∙ ap refusalIn (solve-writes st (run-sound T st k) s t e q c room w i h (omega (arith, l, d .room)))
+
+-- FROM C AND RUST. What `Tells` says of an exported function is a call: o has the number that is answered and the
+-- tables and the buffer after, and its two numbers are those that the function tells. So every demand above is a
+-- demand on the exported functions.
+module _ (T S : Tables) (c : Call) (out₀ out : List ℕ) (r : ℕ) (h : Tells T out₀ c S out r) where
+  abbrev pub exportedOutcome : Outcome
+  exportedOutcome = record {
+    refused = r;
+    first = firstIn (carried T c .answer);
+    second = secondIn (carried T c .answer);
+    after = S;
+    out =
+        out;
+  }
+
+  pub exported : Called T out₀ c exportedOutcome
+  exported = record { room = h .room; is = rw (h .number, h .tables, h .bytes) }
+
+  -- and what stands behind `&mut` is told exactly where nothing is refused
+  pub exported-told : (is was : ℕ) → r ≡ 0 → toldNumber r is was ≡ is
+  unfolding toldNumber
+  exported-told is was z = rw (eq-eqb r 0 z)
+
+  pub exported-kept : (is was : ℕ) → r ≢ 0 → toldNumber r is was ≡ was
+  unfolding toldNumber
+  exported-kept is was n = rw (ne-eqb r 0 n)

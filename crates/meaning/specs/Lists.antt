@@ -1,5 +1,5 @@
--- Serves document 01, 'Store' and 'Numbers of refusal': the listings of sets of slots are the listings of stores, and the smallest
--- free slot of the words is that of the store.
+-- Serves SCOPE.md, 'Store' and 'Numbers of refusal': the listings of sets of slots are the listings of stores, and
+-- the smallest free slot of the words is that of the store.
 use Prim.Native.Nat.{ℕ, zero, suc, _+_, _-_, _*_, _≤_, _<_}
 use mathlib.Core.Path.{_≡_, refl}
 use mathlib.Core.Logic.{_↔_}
@@ -13,10 +13,11 @@ use Rattle.laws.specs.Choice.{pick}
 use Rattle.slots.specs.Slots.{has, others, members, membersFrom, listed}
 use Rattle.layout.specs.Layout.{usedOf, isUsed}
 use Rattle.definitions.specs.Spelt.{clash}
-use Rattle.definitions.specs.Store.{Store, slotsFrom, slotsWith, inUse, freeFrom, firstFree}
+use Rattle.library.specs.Store.{Store, slotsFrom, slotsWith, inUse, freeFrom, firstFree}
 use Rattle.store.specs.Tables.{leastFrom, freeSlot}
 use Rattle.slots.specs.Sets.{Words}
 use Rattle.store.specs.Kept.{has-others}
+use Rattle.laws.specs.Sizes.{slotCount}
 
 -- two tests that are true together
 pub same-test : (b c : Bool) → (b ≡ true) ↔ (c ≡ true) → b ≡ c
@@ -36,9 +37,9 @@ members-from ws p (suc k) s h =
     rw (has-test (has ws s) (p s) (h s (omega arith) (omega arith)), members-from ws p k (suc s) (λ x a b. h x (omega arith) (omega arith)))
 
 -- the members of a set are the slots that pass a test, where the set has just those
-pub members-slots : (ws : List ℕ) (p : ℕ → Bool) → ((s : ℕ) → s < 512 → (has ws s ≡ 1) ↔ (p s ≡ true)) → members ws ≡ slotsWith p
+pub members-slots : (ws : List ℕ) (p : ℕ → Bool) → ((s : ℕ) → s < slotCount → (has ws s ≡ 1) ↔ (p s ≡ true)) → members ws ≡ slotsWith p
 unfolding members
-members-slots ws p h = members-from ws p 512 0 (λ x a b. h x (omega arith))
+members-slots ws p h = members-from ws p slotCount 0 (λ x a b. h x (omega arith))
 
 has-two : (ws : List ℕ) (s : ℕ) → has ws s < 2
 unfolding has
@@ -56,12 +57,12 @@ least-free ws st (suc k) s h =
     go false n = refl
 
 -- the smallest slot that the words do not have is the smallest that the store does not use
-pub free-first : (u : List ℕ) (st : Store) → Words u → ((s : ℕ) → s < 512 → isUsed u s ≡ inUse st s) → freeSlot u ≡ firstFree st
+pub free-first : (u : List ℕ) (st : Store) → Words u → ((s : ℕ) → s < slotCount → isUsed u s ≡ inUse st s) → freeSlot u ≡ firstFree st
 unfolding freeSlot isUsed
-free-first u st w h = least-free (others (usedOf u)) st 512 0 (λ x a b. at x (omega arith))
+free-first u st w h = least-free (others (usedOf u)) st slotCount 0 (λ x a b. at x (omega arith))
   where
-    at : (x : ℕ) → x < 512 → eqb (has (others (usedOf u)) x) 1 ≡ pick (inUse st x) false true
-    at x l = rw (← h x l, lt-ltb x 512 l, has-others u x w l) (go (has (usedOf u) x) (has-two (usedOf u) x))
+    at : (x : ℕ) → x < slotCount → eqb (has (others (usedOf u)) x) 1 ≡ pick (inUse st x) false true
+    at x l = rw (← h x l, lt-ltb x slotCount l, has-others u x w l) (go (has (usedOf u) x) (has-two (usedOf u) x))
       where
         go : (n : ℕ) → n < 2 → eqb (1 - n) 1 ≡ pick (eqb n 1) false true
         go zero l = refl

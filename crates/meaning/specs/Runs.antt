@@ -1,76 +1,59 @@
--- Document 01, 'Store': calls on lent tables, and runs of them. What a call may do is what its contract says: each case of `Called`
--- has the promise of the function of that name (crates store and retrieve), word for word.
+-- SCOPE.md, 'Store': calls on lent tables, and runs of them. What a call means is what its contract says: `carried`
+-- has one line for each function of that name (crates store and retrieve), whose contract is `outcome .. ≡ told ..
+-- (that line)`.
 use Prim.Native.Nat.{ℕ}
 use mathlib.Core.Path.{_≡_}
 use mathlib.Core.List.{List}
+use lib.Dec.{eqb}
 use lib.ListN.{length}
-use Rattle.terms.specs.Refusals.{numberOf}
+use lib.Seq.{sets}
+use Rattle.laws.specs.Choice.{pick}
 use Rattle.layout.specs.Tables.{Tables}
-use Rattle.store.specs.Calls.{openOutcome, insertOutcome, deleteOutcome, keyListing, opening, inserting, deleting, asking}
-use Rattle.store.specs.declared.Opened.{Opened}
-use Rattle.store.specs.declared.Opened.the-variants as Opened
-use Rattle.store.specs.declared.Inserted.{Inserted}
-use Rattle.store.specs.declared.Deleted.{Deleted}
-use Rattle.store.specs.declared.Listed.{Listed}
-use Rattle.retrieve.specs.declared.Retrieved.{Retrieved}
-use Rattle.retrieve.specs.declared.Solved.{Solved}
-use Rattle.retrieve.specs.Retrieving.{Retrieving}
-use Rattle.retrieve.specs.Solving.{Solving}
-use Rattle.definitions.specs.Store.{Store, Call, Answer, empty, after}
-use Rattle.definitions.specs.Store as Abstract
+use Rattle.definitions.specs.Answers.{refusalIn, firstIn, secondIn, written}
+use Rattle.library.specs.Store.{Store, Call, openWith, insert, delete, withKey, retrieve, solve, roomOf, empty, after}
+use Rattle.calls.specs.Outcome.{Outcome, Result, told}
+use Rattle.store.specs.Calls.{opening, inserting, deleting, asking}
+use Rattle.retrieve.specs.Retrieving.{retrieving}
+use Rattle.retrieve.specs.Solving.{solving}
 
--- the numbers that a call answers: the refusal, or 0 and up to two numbers more
-pub record Reply : Type 0 where
-  pub refused : ℕ
-  pub first : ℕ
-  pub second : ℕ
+-- what each call means on the lent tables
+abbrev pub carried : Tables → Call → Result
+carried T (openWith sig) = opening T sig
+carried T (insert t) = inserting T t
+carried T (delete s) = deleting T s
+carried T (withKey k room) = asking T k room
+carried T (retrieve r q room) = retrieving T r q room
+carried T (solve s q room) = solving T s q room
 
-abbrev pub told : ℕ → ℕ → ℕ → Reply
-told r a b = record { refused = r; first = a; second = b }
+-- A CALL: T the tables and out₀ the answer buffer before, as long as the call says (a call without a buffer has an
+-- empty one); o is what comes out: the number of the refusal or 0, up to two numbers, the tables and the buffer after
+pub record Called (T : Tables) (out₀ : List ℕ) (c : Call) (o : Outcome) : Type 0 where
+  pub room : length out₀ ≡ roomOf c
+  pub is : o ≡ told out₀ (carried T c)
 
-abbrev pub openReply : Opened → Reply
-openReply Opened.Open = told 0 0 0
-openReply (Opened.Refused why) = told (numberOf why) 0 0
+-- A CALL FROM C OR RUST: r is the number that is answered; S and out are the tables and the buffer after
+pub record Tells (T : Tables) (out₀ : List ℕ) (c : Call) (S : Tables) (out : List ℕ) (r : ℕ) : Type 0 where
+  pub room : length out₀ ≡ roomOf c
+  pub number : r ≡ refusalIn (carried T c .answer)
+  pub tables : S ≡ carried T c .after
+  pub bytes : out ≡ sets out₀ 0 (written (carried T c .answer))
 
-abbrev pub insertReply : Inserted → Reply
-insertReply (Inserted.Slot s) = told 0 s 0
-insertReply (Inserted.Refused why) = told (numberOf why) 0 0
+-- what stands behind a `&mut` number: what is told where r is 0, and what was there where r is a refusal
+unfoldable pub toldNumber : ℕ → ℕ → ℕ → ℕ
+toldNumber r is was = pick (eqb r 0) is was
 
-abbrev pub deleteReply : Deleted → Reply
-deleteReply (Deleted.Slot s) = told 0 s 0
-deleteReply (Deleted.Refused why) = told (numberOf why) 0 0
+-- of a function that tells the first number, or both: what was there before, and what is there after
+abbrev pub TellsFirst : Tables → List ℕ → Call → Tables → List ℕ → ℕ → ℕ → ℕ → Type 0
+TellsFirst T out₀ c S out r was is = Tells T out₀ c S out r × (is ≡ toldNumber r (firstIn (carried T c .answer)) was)
 
-abbrev pub keyReply : Listed → Reply
-keyReply (Listed.Slots n) = told 0 n 0
-keyReply (Listed.Refused why) = told (numberOf why) 0 0
+abbrev pub TellsBoth : Tables → List ℕ → Call → Tables → List ℕ → ℕ → ℕ → ℕ → ℕ → ℕ → Type 0
+TellsBoth T out₀ c S out r was is was′ is′ =
+    Tells T out₀ c S out r × (is ≡ toldNumber r (firstIn (carried T c .answer)) was)
+    × (is′ ≡ toldNumber r (secondIn (carried T c .answer)) was′)
 
-abbrev pub retrieveReply : Retrieved → Reply
-retrieveReply (Retrieved.Listed c a) = told 0 c a
-retrieveReply (Retrieved.Refused why) = told (numberOf why) 0 0
-
-abbrev pub solveReply : Solved → Reply
-solveReply (Solved.Record m n) = told 0 m n
-solveReply (Solved.Refused why) = told (numberOf why) 0 0
-
--- the numbers of the store's answer
-abbrev pub replyOf : Answer → Reply
-replyOf (Abstract.refused n) = told n 0 0
-replyOf Abstract.opened = told 0 0 0
-replyOf (Abstract.slot s) = told 0 s 0
-replyOf (Abstract.slots l) = told 0 (length l) 0
-replyOf (Abstract.found n l) = told 0 n (length l)
-replyOf (Abstract.solved n w) = told 0 n (length w)
-
--- a call: the tables and the buffer before; the call; the tables, the buffer and the reply after
-pub data Called (T : Tables) (out₀ : List ℕ) : Call → Tables → List ℕ → Reply → Type 0 where
-  opens : (sig : List ℕ) (S : Tables) (r : Opened) → openOutcome r S ≡ opening T sig → Called T out₀ (Abstract.openWith sig) S out₀ (openReply r)
-  inserts : (t : List ℕ) (S : Tables) (r : Inserted) → insertOutcome r S ≡ inserting T t → Called T out₀ (Abstract.insert t) S out₀ (insertReply r)
-  deletes : (s : ℕ) (S : Tables) (r : Deleted) → deleteOutcome r S ≡ deleting T s → Called T out₀ (Abstract.delete s) S out₀ (deleteReply r)
-  asks : (k out : List ℕ) (r : Listed) → keyListing r out ≡ asking T k out₀ → Called T out₀ (Abstract.withKey k (length out₀)) T out (keyReply r)
-  retrieves : (relation : ℕ) (q out : List ℕ) (r : Retrieved) → Retrieving T relation q out₀ out r → Called T out₀ (Abstract.retrieve relation q (length out₀)) T out (retrieveReply r)
-  solves : (s : ℕ) (q out : List ℕ) (r : Solved) → Solving T s q out₀ out r → Called T out₀ (Abstract.solve s q (length out₀)) T out (solveReply r)
-
--- a run: an opening that is not refused, from any memory, and then any calls, refused ones too
+-- A RUN: an opening that is not refused, from any memory, and then any calls, refused ones too
 pub data Run : Tables → Store → Type 0 where
-  opened : (T S : Tables) (sig out₀ out : List ℕ) (r : Reply) → Called T out₀ (Abstract.openWith sig) S out r → r .refused ≡ 0 → Run S (empty sig)
-  called : (T S : Tables) (st : Store) (c : Call) (out₀ out : List ℕ) (r : Reply) → Run T st → Called T out₀ c S out r → Run S (after st c)
+  opened : (T : Tables) (sig out₀ : List ℕ) (o : Outcome) → Called T out₀ (openWith sig) o → o .refused ≡ 0
+      → Run (o .after) (empty sig)
+  called : (T : Tables) (st : Store) (c : Call) (out₀ : List ℕ) (o : Outcome) → Run T st → Called T out₀ c o
+      → Run (o .after) (after st c)

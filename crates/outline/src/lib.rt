@@ -1,5 +1,6 @@
 // A term's items as the key table needs them: each item's number, what stands at its end of path, and where it hangs.
 // An item's up is 0 at the root, else 1 + 8 * (its parent's item) + (its argument's number from 0).
+use laws::VARIABLE16;
 use laws::low;
 use laws::low16;
 use laws::number_at;
@@ -17,7 +18,8 @@ ghost use Rattle.terms.specs.Terms.{numbers};
 // The numbers of the items of t, at the start of `out`; how many.
 pub fn decode(t: &[u8], out: &mut [u16]) -> usize
     requires { ⌜ length (now t) / 2 ≤ length (now out) ⌝ }
-    ensures { λ r. ⌜ (r ≡ length (now (t .entry)) / 2) × (now (out .exit) ≡ sets (now (out .entry)) 0 (numbers (now (t .entry)))) ⌝ }
+    ensures { λ r. ⌜ (r ≡ length (now (t .entry)) / 2)
+        × (now (out .exit) ≡ sets (now (out .entry)) 0 (numbers (now (t .entry)))) ⌝ }
 {
     let n = t.len() / 2;
     let mut i: usize = 0;
@@ -32,7 +34,7 @@ pub fn decode(t: &[u8], out: &mut [u16]) -> usize
 fn end_of(x: u16) -> u16
     ensures { λ r. ⌜ r ≡ endOf x ⌝ }
 {
-    if 32768 <= x { 256 } else { x }
+    if VARIABLE16 <= x { 256 } else { x }
 }
 
 // The ends of the items, at the start of `out`.
@@ -64,8 +66,11 @@ fn push(stack: &mut [u16], top: usize, n: usize, a: usize) -> usize
 
 // The ups of the items, at the start of `out`; how many items the term has. The stack holds what is still to come.
 pub fn ups(sig: &[u8], items: &[u16], out: &mut [u8]) -> usize
-    requires { ⌜ (length (now items) ≤ 32) × (length (now items) ≤ length (now out)) × ((x : ℕ) → getD (now sig) x 0 ≤ 8) ⌝ }
-    ensures { λ r. ⌜ (r ≤ length (now (items .entry))) × (take r (now (out .exit)) ≡ upsF (λ x. getD (now (sig .entry)) x 0) 0 (0 ∷ []) (now (items .entry))) × (drop r (now (out .exit)) ≡ drop r (now (out .entry))) ⌝ }
+    requires { ⌜ (length (now items) ≤ 32) × (length (now items) ≤ length (now out))
+        × ((x : ℕ) → getD (now sig) x 0 ≤ 8) ⌝ }
+    ensures { λ r. ⌜ (r ≤ length (now (items .entry)))
+        × (take r (now (out .exit)) ≡ upsF (λ x. getD (now (sig .entry)) x 0) 0 (0 ∷ []) (now (items .entry)))
+        × (drop r (now (out .exit)) ≡ drop r (now (out .entry))) ⌝ }
 {
     let mut stack = [0u16; 257];
     let mut sp: usize = 256;

@@ -1,9 +1,10 @@
 // One stored term and one question, without tables: are they unifiable.
 use terms::Checked;
 use terms::Refusal;
+ghost use Prim.Native.Nat.{_≤_};
 ghost use mathlib.Core.Path.{_≡_};
 ghost use Rattle.terms.specs.Refusals.{checkedNumber};
-ghost use Rattle.pairs.specs.Pairs.{lowest, pairRefusal, Answers};
+ghost use Rattle.pairs.specs.Pairs.{firstOf, pairRefusal, Answers};
 
 pub enum Paired {
     Unifiable,
@@ -11,9 +12,10 @@ pub enum Paired {
     Refused(Refusal),
 }
 
-// Of two refusals the one with the lower number.
-fn lower(a: Checked, b: Checked) -> Checked
-    ensures { λ r. ⌜ checkedNumber r ≡ lowest (checkedNumber a) (checkedNumber b) ⌝ }
+// Of two refusals the first in rank; up to 16 the rank is the order of the numbers.
+fn first(a: Checked, b: Checked) -> Checked
+    requires { ⌜ (checkedNumber a ≤ 16) × (checkedNumber b ≤ 16) ⌝ }
+    ensures { λ r. ⌜ checkedNumber r ≡ firstOf (checkedNumber a) (checkedNumber b) ⌝ }
 {
     if a.number() == 0 {
         return b;
@@ -24,7 +26,7 @@ fn lower(a: Checked, b: Checked) -> Checked
     if b.number() < a.number() { b } else { a }
 }
 
-// Refusal 2, or of 5 to 8 the lowest over both terms, or none.
+// Refusal 2, or of 5 to 8 the first in rank over both terms, or none.
 pub fn check(sig: &[u8], stored: &[u8], question: &[u8]) -> Checked
     ensures { λ r. ⌜ checkedNumber r ≡ pairRefusal (now (sig .entry)) (now (stored .entry)) (now (question .entry)) ⌝ }
 {
@@ -32,7 +34,7 @@ pub fn check(sig: &[u8], stored: &[u8], question: &[u8]) -> Checked
     if signature.number() != 0 {
         return signature;
     }
-    lower(terms::check(sig, stored), terms::check(sig, question))
+    first(terms::check(sig, stored), terms::check(sig, question))
 }
 
 // Whether some substitution makes the stored term and the question the same, their variables apart.

@@ -1,5 +1,5 @@
--- The table of candidates of document 01, 'Paths and keys', is what the walk through the tables finds: the definitions' `agree`
--- against the walk's `Agree`.
+-- The table of candidates of SCOPE.md, 'Paths and keys', is what the walk through the tables finds: the definitions'
+-- `agree` against the walk's `Agree`.
 use Prim.Native.Nat.{ℕ, _≤_, _<_}
 use mathlib.Core.Path.{_≡_, refl, sym, ap, _∙_}
 use mathlib.Core.Logic.{_⊎_, inl, inr, _↔_, ⊎-elim}
@@ -16,6 +16,8 @@ use Rattle.definitions.specs.Trees.{countArgs, IsSymbol, Variable, Shaped, Shap
 use Rattle.definitions.specs.Candidates.{agree, agreeAll, opens, stars, candidate, isCandidate}
 use Rattle.definitions.specs.Spelt.{end-variable, end-symbol, shaped-count, tree-shaped}
 use Rattle.paths.specs.Cand.{Agree, Agrees}
+use Rattle.laws.specs.Sizes.{variableBase}
+use Rattle.terms.specs.Terms.{arity}
 
 false-true : {A : Type 0} → false ≡ true → A
 false-true h = absurd (let z : _≡_ {A = ℕ} 0 1 = cc in omega arith)
@@ -31,31 +33,31 @@ holds-true false h = absurd h
 -- each case of the table: which of the two items is a variable
 module _ (qv tv : Bool) (x y : ℕ) (all : Bool) (All : Type 0) where
   abbrev Table : Type 0
-  Table = (pick (leb 32768 x) (pick (leb 32768 y) true qv) (pick (leb 32768 y) tv (pick (eqb x y) all false)) ≡ true)
-      ↔ pick (leb 32768 x) (pick qv (Unit {0}) (endOf y ≡ 256)) ((T tv × (endOf y ≡ 256)) ⊎ ((endOf y ≡ endOf x) × All))
+  Table = (pick (leb variableBase x) (pick (leb variableBase y) true qv) (pick (leb variableBase y) tv (pick (eqb x y) all false)) ≡ true)
+      ↔ pick (leb variableBase x) (pick qv (Unit {0}) (endOf y ≡ 256)) ((T tv × (endOf y ≡ 256)) ⊎ ((endOf y ≡ endOf x) × All))
 
-  both-variables : 32768 ≤ x → 32768 ≤ y → Table
-  both-variables h k = rw (le-leb 32768 x h, le-leb 32768 y k) ((λ e. go qv), (λ e. refl))
+  both-variables : variableBase ≤ x → variableBase ≤ y → Table
+  both-variables h k = rw (le-leb variableBase x h, le-leb variableBase y k) ((λ e. go qv), (λ e. refl))
     where
       go : (b : Bool) → pick b (Unit {0}) (endOf y ≡ 256)
       go true = tt
       go false = end-variable y k
 
-  question-variable : 32768 ≤ x → y < 256 → Table
-  question-variable h k = rw (le-leb 32768 x h, lt-leb 32768 y (omega arith)) (go qv)
+  question-variable : variableBase ≤ x → y < 256 → Table
+  question-variable h k = rw (le-leb variableBase x h, lt-leb variableBase y (omega arith)) (go qv)
     where
       go : (b : Bool) → (b ≡ true) ↔ pick b (Unit {0}) (endOf y ≡ 256)
       go true = ((λ e. tt), (λ e. refl))
       go false = ((λ e. false-true e), (λ e. absurd (omega (arith, e, end-symbol y (omega arith)))))
 
-  stored-variable : x < 256 → 32768 ≤ y → Table
-  stored-variable h k = rw (lt-leb 32768 x (omega arith), le-leb 32768 y k) (
+  stored-variable : x < 256 → variableBase ≤ y → Table
+  stored-variable h k = rw (lt-leb variableBase x (omega arith), le-leb variableBase y k) (
     (λ e. inl (true-holds tv e, end-variable y k)),
     (λ e. ⊎-elim (λ a. holds-true tv (a .0)) (λ a. absurd (omega (arith, a .0, end-variable y k, end-symbol x (omega arith)))) e),
   )
 
   both-symbols : x < 256 → y < 256 → (x ≡ y → (all ≡ true) ↔ All) → Table
-  both-symbols h k ih = rw (lt-leb 32768 x (omega arith), lt-leb 32768 y (omega arith)) (to (eqb x y) refl, fro)
+  both-symbols h k ih = rw (lt-leb variableBase x (omega arith), lt-leb variableBase y (omega arith)) (to (eqb x y) refl, fro)
     where
       X : endOf x ≡ x
       X = end-symbol x (omega arith)
@@ -77,9 +79,9 @@ module _ (qv tv : Bool) (sig : List ℕ) (s : Signed sig) where
 
     pub agree-means : (q t : Tm) → Shaped sig q → Shaped sig t → (agree qv tv q t ≡ true) ↔ Agree qv tv q t
     agree-means (node x us) (node y vs) w v = go (w .0) (v .0)
-        (λ e. agreeAll-means us vs (w .1) (v .1) (shaped-count sig (s .short) x us w ∙ ap (λ (z : ℕ). getD sig z 0) e ∙ sym (shaped-count sig (s .short) y vs v)))
+        (λ e. agreeAll-means us vs (w .1) (v .1) (shaped-count sig (s .short) x us w ∙ ap (λ (z : ℕ). arity sig z) e ∙ sym (shaped-count sig (s .short) y vs v)))
       where
-        go : (IsSymbol sig x × (countArgs us ≡ getD sig x 0)) ⊎ (Variable x × (countArgs us ≡ 0)) → (IsSymbol sig y × (countArgs vs ≡ getD sig y 0)) ⊎ (Variable y × (countArgs vs ≡ 0))
+        go : (IsSymbol sig x × (countArgs us ≡ arity sig x)) ⊎ (Variable x × (countArgs us ≡ 0)) → (IsSymbol sig y × (countArgs vs ≡ arity sig y)) ⊎ (Variable y × (countArgs vs ≡ 0))
             → (x ≡ y → (agreeAll qv tv us vs ≡ true) ↔ Agrees qv tv us vs) → Table qv tv x y (agreeAll qv tv us vs) (Agrees qv tv us vs)
         go (inl a) (inl b) ih = both-symbols qv tv x y _ _ (omega (arith, a .0, s .short)) (omega (arith, b .0, s .short)) ih
         go (inl a) (inr b) ih = stored-variable qv tv x y _ _ (omega (arith, a .0, s .short)) (b .0 .0)

@@ -1,4 +1,4 @@
--- Serves document 01, 'Paths and keys': the candidate walk through the tables, and what it means.
+-- Serves SCOPE.md, 'Paths and keys': the candidate walk through the tables, and what it means.
 use Prim.Native.Nat.{ℕ, suc, _+_, _-_, _*_, _≤_, _<_}
 use mathlib.Core.Path.{_≡_, sym, ap, _∙_, subst}
 use mathlib.Core.Logic.{_⊎_, inl, inr, _↔_, ⊎-elim}
@@ -13,7 +13,8 @@ use Rattle.chains.specs.Chains.{find}
 use Rattle.keys.specs.Keys.{Place, step, key, Tm, Args, node, nil, cons, endOf, HasKey, subAt, topOf, down, nth, down-some}
 use Rattle.definitions.specs.Trees.{countArgs}
 use Rattle.paths.specs.Rep.{lab, At, kid, Den, Rep, find-den, find-there}
-use Rattle.paths.specs.Store.{Stored, KeyIn}
+use Rattle.paths.specs.StoredTrees.{Stored, KeyIn}
+use Rattle.laws.specs.Sizes.{keyLimit, variableBase}
 
 -- every symbol has as many arguments as its arity, at most eight, and is below 256
 unfoldable mutual
@@ -26,10 +27,10 @@ unfoldable mutual
 
 -- qv: a variable of the question agrees with anything; tv: a variable of the stored term does
 module _ (qv tv : Bool) where
-  -- what the walk finds of two terms, by the ends of their paths: document 01's table (Agreeing shows that)
+  -- what the walk finds of two terms, by the ends of their paths: SCOPE.md's table (Agreeing shows that)
   unfoldable mutual
     pub Agree : Tm → Tm → Type 0
-    Agree (node x us) (node y vs) = pick (leb 32768 x) (pick qv (Unit {0}) (endOf y ≡ 256)) ((T tv × (endOf y ≡ 256)) ⊎ ((endOf y ≡ endOf x) × Agrees us vs))
+    Agree (node x us) (node y vs) = pick (leb variableBase x) (pick qv (Unit {0}) (endOf y ≡ 256)) ((T tv × (endOf y ≡ 256)) ⊎ ((endOf y ≡ endOf x) × Agrees us vs))
 
     pub Agrees : Args → Args → Type 0
     Agrees nil vs = Unit {0}
@@ -40,11 +41,11 @@ module _ (qv tv : Bool) where
   module _ (link label : List ℕ) (mem : ℕ → ℕ → Type 0) where
     -- slot t is in the set of the key with end e at place n
     abbrev pub At? : ℕ → ℕ → ℕ → Type 0
-    At? n e t = (find link label (lab n e) < 4096) × mem (find link label (lab n e)) t
+    At? n e t = (find link label (lab n e) < keyLimit) × mem (find link label (lab n e)) t
 
     unfoldable mutual
       pub walkT : Tm → ℕ → (ℕ → Type 0) → ℕ → Type 0
-      walkT (node x us) n W t = pick (leb 32768 x) (pick qv (W t) (W t × At? n 256 t)) ((T tv × W t × At? n 256 t) ⊎ walkA us (find link label (lab n (endOf x)) * 8) (λ u. W u × At? n (endOf x) u) t)
+      walkT (node x us) n W t = pick (leb variableBase x) (pick qv (W t) (W t × At? n 256 t)) ((T tv × W t × At? n 256 t) ⊎ walkA us (find link label (lab n (endOf x)) * 8) (λ u. W u × At? n (endOf x) u) t)
 
       pub walkA : Args → ℕ → (ℕ → Type 0) → ℕ → Type 0
       walkA nil m W t = W t
@@ -55,7 +56,7 @@ module _ (qv tv : Bool) where
       unfolding walkT
 
       walkT-in : (q : Tm) (n : ℕ) (W : ℕ → Type 0) (t : ℕ) → walkT q n W t → W t
-      walkT-in (node x us) n W t h = go (leb 32768 x) qv h (λ z. walkA-in us (find link label (lab n (endOf x)) * 8) (λ u. W u × At? n (endOf x) u) t z .0)
+      walkT-in (node x us) n W t h = go (leb variableBase x) qv h (λ z. walkA-in us (find link label (lab n (endOf x)) * 8) (λ u. W u × At? n (endOf x) u) t z .0)
         where
           go : (b c : Bool) → pick b (pick c (W t) (W t × At? n 256 t)) ((T tv × W t × At? n 256 t) ⊎ walkA us (find link label (lab n (endOf x)) * 8) (λ u. W u × At? n (endOf x) u) t)
               → (walkA us (find link label (lab n (endOf x)) * 8) (λ u. W u × At? n (endOf x) u) t → W t) → W t
@@ -93,7 +94,7 @@ module _ (qv tv : Bool) where
         -- slot s is in the result exactly if it is in W and its term at this place agrees
         pub walkT-means : (q : Tm) (n : ℕ) (P : Place) (W : ℕ → Type 0) (v : Tm) → At label n P → subAt P t ≡ some v → Wf ar q → Wf ar v → walkT q n W s ↔ (W s × Agree q v)
         walkT-means (node x us) n P W (node y vs) a u w wv =
-            go (leb 32768 x) qv (set-iff n P 256 y vs a (omega arith) u) (set-iff n P (endOf x) y vs a (w .2) u)
+            go (leb variableBase x) qv (set-iff n P 256 y vs a (omega arith) u) (set-iff n P (endOf x) y vs a (w .2) u)
             (λ d z. walkA-means us n P (endOf x) (find link label (lab n (endOf x))) 0 (find link label (lab n (endOf x)) * 8) (λ k. W k × At? n (endOf x) k) y vs vs d z u (w .3) (wv .3)
             (omega arith) (omega (arith, w .0, w .1)) (λ j. ap (λ (i : ℕ). nth i vs) (omega arith)) (w .0 ∙ ap ar (sym z) ∙ sym (wv .0)))
           where

@@ -1,4 +1,4 @@
--- Document 01, 'Numbers of refusal': how many distinct keys the stored terms have, and refusal 12.
+-- SCOPE.md, 'Numbers of refusal': how many distinct keys the stored terms have, and refusal 12.
 use Prim.Native.Nat.{ℕ, zero, suc, _+_, _-_, _*_, _/_, _%_, _≤_, _<_}
 use mathlib.Core.Path.{_≡_, refl, sym, ap, _∙_, subst}
 use mathlib.Core.Logic.{_⊎_, inl, inr, _↔_, ⊎-elim}
@@ -15,6 +15,7 @@ use Rattle.keys.specs.Keys.{Place, Key, key}
 use Rattle.paths.specs.Rep.{lab, Den, Rep, Full, den-fun, den-inj}
 use Rattle.paths.specs.Free.{freeOf, frees}
 use Rattle.paths.specs.Insert.{DenK, RK, Lack, done, has, new, With}
+use Rattle.laws.specs.Sizes.{keyLimit}
 
 -- R has n distinct keys
 pub record Distinct (R : ℕ → Place → ℕ → Type 0) (n : ℕ) : Type 0 where
@@ -30,7 +31,7 @@ distinct-one R n m a b =
     let q = nodup-le (b .keys) (a .keys) (b .nodup) (λ K i. let w = b .from K i in a .into (w .0) K (w .1)) in
     omega (arith, a .many, b .many)
 
-module _ (link label : List ℕ) (mem : ℕ → ℕ → Type 0) (R : ℕ → Place → ℕ → Type 0) (r : Rep link label mem R) (full : Full label mem 4096) where
+module _ (link label : List ℕ) (mem : ℕ → ℕ → Type 0) (R : ℕ → Place → ℕ → Type 0) (r : Rep link label mem R) (full : Full label mem keyLimit) where
   record Upto (n : ℕ) : Type 0 where
     pub keys : List Key
     pub nodup : NoDup keys
@@ -47,7 +48,7 @@ module _ (link label : List ℕ) (mem : ℕ → ℕ → Type 0) (R : ℕ → Pla
   den-one : (k j : ℕ) (K : Key) → DenK label k K → DenK label j K → k ≡ j
   den-one k j (key P e) a b = den-inj label (r .unique) k j P e a b
 
-  upto : (n : ℕ) → n ≤ 4096 → Upto n
+  upto : (n : ℕ) → n ≤ keyLimit → Upto n
   unfolding freeOf
   upto zero l = record { keys = []; nodup = tt; from = λ K i. absurd i; into = λ k K h d. absurd (omega arith); many = refl }
   upto (suc n) l = go (upto n (omega arith)) (ℕ-discrete (getD label n 0) 0)
@@ -72,10 +73,10 @@ module _ (link label : List ℕ) (mem : ℕ → ℕ → Type 0) (R : ℕ → Pla
           put k K h d (yes y) = inl (den-same n K _ (rw y at d) (r .means n l z .2))
           put k K h d (no y) = inr (u .into k K (omega arith) d)
 
-  all : Upto 4096
-  all = upto 4096 (omega arith)
+  all : Upto keyLimit
+  all = upto keyLimit (omega arith)
 
-  den-low : (k : ℕ) (K : Key) → DenK label k K → k < 4096
+  den-low : (k : ℕ) (K : Key) → DenK label k K → k < keyLimit
   den-low k (key P e) d = d .low
 
   there : (s : ℕ) (K : Key) → RK R s K → (k : ℕ) × DenK label k K
@@ -84,16 +85,6 @@ module _ (link label : List ℕ) (mem : ℕ → ℕ → Type 0) (R : ℕ → Pla
   some-slot : (k : ℕ) (K : Key) → DenK label k K → (s : ℕ) × RK R s K
   unfolding Full
   some-slot k (key P e) d = let w = full k (d .low) (λ z. den-used k (key P e) d z) (λ z. let l = d .low in omega arith) in (w .0, r .into k (w .0) P e d (w .1))
-
-  -- the keys in use are the distinct keys of the stored terms
-  pub keys-now : Distinct R (4096 - frees label)
-  keys-now = record {
-    keys = all .keys;
-    nodup = all .nodup;
-    from = λ K i. let w = all .from K i in some-slot (w .0) K (w .2);
-    into = λ s K h. let w = there s K h in all .into (w .0) K (den-low (w .0) K (w .1)) (w .1);
-    many = omega (arith, all .many);
-  }
 
   -- the keys that are missing
   record Miss (Ks : List Key) (m : ℕ) : Type 0 where
@@ -127,7 +118,7 @@ module _ (link label : List ℕ) (mem : ℕ → ℕ → Type 0) (R : ℕ → Pla
   in-with s t Ks (key P e) h = h
 
   -- the keys after an insert
-  pub keys-then : (s : ℕ) (Ks : List Key) (m : ℕ) → NoDup Ks → Lack label Ks m → Distinct (With R s Ks) (4096 - frees label + m)
+  pub keys-then : (s : ℕ) (Ks : List Key) (m : ℕ) → NoDup Ks → Lack label Ks m → Distinct (With R s Ks) (keyLimit - frees label + m)
   keys-then s Ks m n l = let u = miss Ks m n l in record {
     keys = all .keys ++ u .keys;
     nodup = nodup-append (all .keys) (u .keys) (all .nodup) (u .nodup) (λ K i j. let w = all .from K i in u .from K j .1 (w .0) (w .2));
@@ -138,6 +129,6 @@ module _ (link label : List ℕ) (mem : ℕ → ℕ → Type 0) (R : ℕ → Pla
   }
 
   -- refusal 12 is given exactly when the stored terms would have over 4,096 distinct keys
-  pub keys-refused : (s : ℕ) (Ks : List Key) (m N : ℕ) → NoDup Ks → Lack label Ks m → Distinct (With R s Ks) N → (frees label < m) ↔ (4096 < N)
-  keys-refused s Ks m N n l d = let e = distinct-one (With R s Ks) N (4096 - frees label + m) d (keys-then s Ks m n l) in
+  pub keys-refused : (s : ℕ) (Ks : List Key) (m N : ℕ) → NoDup Ks → Lack label Ks m → Distinct (With R s Ks) N → (frees label < m) ↔ (keyLimit < N)
+  keys-refused s Ks m N n l d = let e = distinct-one (With R s Ks) N (keyLimit - frees label + m) d (keys-then s Ks m n l) in
       ((λ h. omega (arith, all .many)), (λ h. omega (arith, all .many)))

@@ -1,4 +1,5 @@
--- Serves document 01, 'Store': in a delete each key of a term, the last first, loses the slot, and is freed where it has none left.
+-- Serves SCOPE.md, 'Store': in a delete each key of a term, the last first, loses the slot, and is freed where it has
+-- none left.
 use Prim.Native.Nat.{ℕ, zero, suc, _+_, _-_, _*_, _/_, _%_, _≤_, _<_}
 use mathlib.Core.Path.{_≡_, refl, sym, ap, _∙_, subst}
 use mathlib.Core.Logic.{_⊎_, inl, inr, _↔_, ⊎-elim}
@@ -14,6 +15,7 @@ use Rattle.chains.specs.Chains.{Chains, relinked}
 use Rattle.keys.specs.Keys.{Place, root, step, Key, key}
 use Rattle.paths.specs.Rep.{lab, At, Den, Rep, Full, Minus, den-fun, clear-rep, free-rep, den-stay}
 use Rattle.paths.specs.Insert.{DenK, RK, Dens, rep-iff, St, Good, relinked-length}
+use Rattle.laws.specs.Sizes.{keyLimit, slotCount}
 
 -- the place of each key is the root or leads from a key after it
 abbrev pub From : Place → List Key → Type 0
@@ -56,13 +58,13 @@ module _ (S : Type 0) (unmark : S → ℕ → ℕ → S) (emptyb : S → ℕ →
   delRun σ s (k ∷ ks) = delRun (left σ k s) s ks
 
 module _ (S : Type 0) (mem : S → ℕ → ℕ → Type 0) (mark unmark : S → ℕ → ℕ → S) (emptyb : S → ℕ → Bool) (Ok : S → Type 0) where
-  module _ (unmark-ok : (σ : S) (k s : ℕ) → Ok σ → k < 4096 → s < 512 → Ok (unmark σ k s)) (unmark-law : (σ : S) (k s : ℕ) → Ok σ → k < 4096 → s < 512 → (j t : ℕ) → mem (unmark σ k s) j t ↔ (mem σ j t × ((j ≡ k) × (t ≡ s) → ⊥)))
-      (empty-yes : (σ : S) (k t : ℕ) → Ok σ → k < 4096 → emptyb σ k ≡ true → mem σ k t → ⊥) (empty-no : (σ : S) (k : ℕ) → Ok σ → k < 4096 → emptyb σ k ≡ false → (t : ℕ) × mem σ k t) where
+  module _ (unmark-ok : (σ : S) (k s : ℕ) → Ok σ → k < keyLimit → s < slotCount → Ok (unmark σ k s)) (unmark-law : (σ : S) (k s : ℕ) → Ok σ → k < keyLimit → s < slotCount → (j t : ℕ) → mem (unmark σ k s) j t ↔ (mem σ j t × ((j ≡ k) × (t ≡ s) → ⊥)))
+      (empty-yes : (σ : S) (k t : ℕ) → Ok σ → k < keyLimit → emptyb σ k ≡ true → mem σ k t → ⊥) (empty-no : (σ : S) (k : ℕ) → Ok σ → k < keyLimit → emptyb σ k ≡ false → (t : ℕ) × mem σ k t) where
     record Fewer (σ τ : St S) (R : ℕ → Place → ℕ → Type 0) (k : ℕ) : Type 0 where
       pub good : Good S mem mark Ok τ R
       pub keep : (j : ℕ) (K : Key) → (j ≡ k → ⊥) → DenK (σ .label) j K → DenK (τ .label) j K
 
-    fewer : (σ : St S) (R : ℕ → Place → ℕ → Type 0) (s k : ℕ) (P : Place) (e : ℕ) → Good S mem mark Ok σ R → s < 512 → Den (σ .label) k P e
+    fewer : (σ : St S) (R : ℕ → Place → ℕ → Type 0) (s k : ℕ) (P : Place) (e : ℕ) → Good S mem mark Ok σ R → s < slotCount → Den (σ .label) k P e
         → ((Q : Place) (i f : ℕ) → Q ≡ step P e i → R s Q f → ⊥) → Fewer σ (left S unmark emptyb σ k s) (Minus R s P e) k
     unfolding left cleared freed Full
     fewer σ R s k P e g l d below = go (emptyb sets k) refl
@@ -104,7 +106,7 @@ module _ (S : Type 0) (mem : S → ℕ → ℕ → Type 0) (mark unmark : S → 
           keep = λ j K z b. b;
         }
           where
-            slot-left : (j : ℕ) → j < 4096 → (getD (σ .label) j 0 ≡ 0 → ⊥) → Dec (j ≡ k) → (t : ℕ) × mem sets j t
+            slot-left : (j : ℕ) → j < keyLimit → (getD (σ .label) j 0 ≡ 0 → ⊥) → Dec (j ≡ k) → (t : ℕ) × mem sets j t
             slot-left j m z (yes y) = rw y (empty-no sets k ok′ (d .low) q)
             slot-left j m z (no y) = full′ j m z y
 
@@ -116,7 +118,7 @@ module _ (S : Type 0) (mem : S → ℕ → ℕ → Type 0) (mark unmark : S → 
     dens-keep σ τ k P e d f (j ∷ ks) (key Q x ∷ Ks) o h =
         (f j (key Q x) (λ y. let c = den-fun (σ .label) k P Q e x d (rw y at (h .0)) in let a : P ≡ Q = c .0 in let b : e ≡ x = c .1 in o (inl (cc))) (h .0), dens-keep σ τ k P e d f ks Ks (λ i. o (inr i)) (h .1))
 
-    pub del-good : (ks : List ℕ) (Ks : List Key) (σ : St S) (R : ℕ → Place → ℕ → Type 0) (s : ℕ) → Good S mem mark Ok σ R → s < 512 → Dens (σ .label) ks Ks → NoDup Ks → Grown Ks
+    pub del-good : (ks : List ℕ) (Ks : List Key) (σ : St S) (R : ℕ → Place → ℕ → Type 0) (s : ℕ) → Good S mem mark Ok σ R → s < slotCount → Dens (σ .label) ks Ks → NoDup Ks → Grown Ks
         → ((Q : Place) (f : ℕ) → R s Q f → In (key Q f) Ks) → Good S mem mark Ok (delRun S unmark emptyb σ s ks) (Without R s)
     unfolding delRun
     del-good [] [] σ R s g l d n w i = record { rep = rep-iff _ _ _ R (Without R s) (λ t Q f. ((λ h. (h, (λ z. i Q f (rw z at h)))), (λ h. h .0))) (g .rep); full = g .full; links = g .links; labels = g .labels; ok = g .ok }

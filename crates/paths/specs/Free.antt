@@ -1,4 +1,4 @@
--- Serves document 01, 'Store' ('freed keys are used again'): the free keys, and how many there are.
+-- Serves SCOPE.md, 'Store' ('freed keys are used again'): the free keys, and how many there are.
 use Prim.Native.Nat.{ℕ, zero, suc, _+_, _-_, _*_, _/_, _%_, _≤_, _<_}
 use mathlib.Core.Path.{_≡_, refl, sym, ap, _∙_}
 use mathlib.Core.Logic.{_⊎_, inl, inr, _↔_, ⊎-elim}
@@ -13,6 +13,7 @@ use lib.Seq.{getD-set-same, getD-set-other}
 use Rattle.laws.specs.Members.{In, NoDup, nodup-le}
 use Rattle.laws.specs.Choice.{pick}
 use Rattle.chains.specs.Chains.{Chains, Chain, home, find, find-complete, longer, longer-yes, longer-no}
+use Rattle.laws.specs.Sizes.{freeHead, keyLimit}
 
 -- the keys below n whose label is 0
 unfoldable pub freeOf : List ℕ → ℕ → List ℕ
@@ -50,52 +51,52 @@ free-nodup label (suc n) = go (eqb (getD label n 0) 0) (free-nodup label n)
     go false d = d
 
 abbrev pub frees : List ℕ → ℕ
-frees label = length (freeOf label 4096)
+frees label = length (freeOf label keyLimit)
 
 -- where one is free, the search of label 0 answers one
-pub free-found : (link label : List ℕ) → Chains link label 4096 → 0 < frees label → find link label 0 < 4096
-free-found link label c h = go (freeOf label 4096) (free-in label 4096) h
+pub free-found : (link label : List ℕ) → Chains link label keyLimit → 0 < frees label → find link label 0 < keyLimit
+free-found link label c h = go (freeOf label keyLimit) (free-in label keyLimit) h
   where
-    go : (l : List ℕ) → ((k : ℕ) → In k l → (k < 4096) × (getD label k 0 ≡ 0)) → 0 < length l → find link label 0 < 4096
+    go : (l : List ℕ) → ((k : ℕ) → In k l → (k < keyLimit) × (getD label k 0 ≡ 0)) → 0 < length l → find link label 0 < keyLimit
     go [] m q = absurd (omega arith)
     go (k ∷ l) m q = let z = m k (inl refl) in find-complete link label 0 k c (z .0) (z .1)
 
 -- a label given takes at most one of them
 pub free-less : (label : List ℕ) (k w : ℕ) → frees label ≤ suc (frees (set label k w))
-free-less label k w = nodup-le (freeOf label 4096) (k ∷ freeOf (set label k w) 4096) (free-nodup label 4096)
-    (λ j i. let z = free-in label 4096 j i in go j z (ℕ-discrete j k))
+free-less label k w = nodup-le (freeOf label keyLimit) (k ∷ freeOf (set label k w) keyLimit) (free-nodup label keyLimit)
+    (λ j i. let z = free-in label keyLimit j i in go j z (ℕ-discrete j k))
   where
-    go : (j : ℕ) → (j < 4096) × (getD label j 0 ≡ 0) → Dec (j ≡ k) → In j (k ∷ freeOf (set label k w) 4096)
+    go : (j : ℕ) → (j < keyLimit) × (getD label j 0 ≡ 0) → Dec (j ≡ k) → In j (k ∷ freeOf (set label k w) keyLimit)
     go j z (yes q) = inl q
-    go j z (no q) = inr (in-free (set label k w) 4096 j (z .0) (getD-set-other label k j w 0 q ∙ z .1))
+    go j z (no q) = inr (in-free (set label k w) keyLimit j (z .0) (getD-set-other label k j w 0 q ∙ z .1))
 
 -- the test for room: the free chain has at least m keys
-label-free : (w : ℕ) → home w ≡ 8189 → w ≡ 0
+label-free : (w : ℕ) → home w ≡ freeHead → w ≡ 0
 unfolding home
 label-free zero h = refl
 label-free (suc w) h = absurd (omega arith)
 
-free-home : (w : ℕ) → w ≡ 0 → home w ≡ 8189
+free-home : (w : ℕ) → w ≡ 0 → home w ≡ freeHead
 unfolding home
 free-home zero h = refl
 free-home (suc w) h = absurd (omega arith)
 
-pub room : (link label : List ℕ) (m : ℕ) → Chains link label 4096 → (longer link m (getD link 8189 0) ≡ true) ↔ (m ≤ frees label)
+pub room : (link label : List ℕ) (m : ℕ) → Chains link label keyLimit → (longer link m (getD link freeHead 0) ≡ true) ↔ (m ≤ frees label)
 unfolding Chains
-room link label m c = ((λ h. to h (decLt (frees label) m)), (λ h. longer-yes link m (getD link 8189 0) (d .keys) (d .linked) (λ k i. d .from k i .0) (omega (arith, same))))
+room link label m c = ((λ h. to h (decLt (frees label) m)), (λ h. longer-yes link m (getD link freeHead 0) (d .keys) (d .linked) (λ k i. d .from k i .0) (omega (arith, same))))
   where
-    d : Chain link label 4096 8189
-    d = c 8189 (omega arith) (omega arith)
+    d : Chain link label keyLimit freeHead
+    d = c freeHead (omega arith) (omega arith)
 
     le : length (d .keys) ≤ frees label
-    le = nodup-le (d .keys) (freeOf label 4096) (d .nodup) (λ k i. let w = d .from k i in in-free label 4096 k (w .0) (label-free _ (w .1)))
+    le = nodup-le (d .keys) (freeOf label keyLimit) (d .nodup) (λ k i. let w = d .from k i in in-free label keyLimit k (w .0) (label-free _ (w .1)))
 
     ge : frees label ≤ length (d .keys)
-    ge = nodup-le (freeOf label 4096) (d .keys) (free-nodup label 4096) (λ k i. let w = free-in label 4096 k i in d .into k (w .0) (free-home _ (w .1)) (λ z. let q = w .0 in omega arith))
+    ge = nodup-le (freeOf label keyLimit) (d .keys) (free-nodup label keyLimit) (λ k i. let w = free-in label keyLimit k i in d .into k (w .0) (free-home _ (w .1)) (λ z. let q = w .0 in omega arith))
 
     same : length (d .keys) ≡ frees label
     same = omega (arith, le, ge)
 
-    to : longer link m (getD link 8189 0) ≡ true → Dec (frees label < m) → m ≤ frees label
-    to h (yes q) = let z = longer-no link m (getD link 8189 0) (d .keys) (d .linked) (λ k i. d .from k i .0) (omega (arith, same)) in let y : _≡_ {A = ℕ} 0 1 = cc in absurd (omega arith)
+    to : longer link m (getD link freeHead 0) ≡ true → Dec (frees label < m) → m ≤ frees label
+    to h (yes q) = let z = longer-no link m (getD link freeHead 0) (d .keys) (d .linked) (λ k i. d .from k i .0) (omega (arith, same)) in let y : _≡_ {A = ℕ} 0 1 = cc in absurd (omega arith)
     to h (no q) = omega arith

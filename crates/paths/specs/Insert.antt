@@ -1,4 +1,4 @@
--- Serves document 01, 'Store': in an insert each key of a term is found or added, and the slot's bit set.
+-- Serves SCOPE.md, 'Store': in an insert each key of a term is found or added, and the slot's bit set.
 use Prim.Native.Nat.{ℕ, zero, suc, _+_, _-_, _*_, _/_, _%_, _≤_, _<_}
 use mathlib.Core.Path.{_≡_, refl, sym, ap, _∙_, subst}
 use mathlib.Core.Logic.{_⊎_, inl, inr, _↔_, ⊎-elim}
@@ -17,7 +17,8 @@ use Rattle.chains.specs.Chains.{Chains, find, relinked, taken, pushed, find-sou
 use Rattle.keys.specs.Keys.{Place, root, step, Key, key}
 use Rattle.paths.specs.Rep.{lab, At, top, kid, Den, Rep, Full, Unique, Plus, Above, den-fun, den-inj, find-den, den-find, find-none, add-rep, add-den, set-rep, den-keep, carry}
 use Rattle.paths.specs.Free.{frees, free-found, free-less}
-use Rattle.paths.specs.Walk.{kidOf, upPlace, upNum, keyList}
+use Rattle.paths.specs.TreeWalk.{kidOf, upPlace, upNum, keyList}
+use Rattle.laws.specs.Sizes.{keyLimit, linkLength, slotCount}
 
 abbrev pub DenK : List ℕ → ℕ → Key → Type 0
 DenK label k (key P e) = Den label k P e
@@ -55,7 +56,8 @@ dens-map label label′ f (k ∷ ks) (K ∷ Ks) d = (f k K (d .0), dens-map labe
 pub data Lack (label : List ℕ) : List Key → ℕ → Type 0 where
   done : Lack label [] 0
   has : {K : Key} {Ks : List Key} {m : ℕ} (k : ℕ) → DenK label k K → Lack label Ks m → Lack label (K ∷ Ks) m
-  new : {K : Key} {Ks : List Key} {m : ℕ} → ((k : ℕ) → DenK label k K → ⊥) → Lack label Ks m → Lack label (K ∷ Ks) (suc m)
+  new : {K : Key} {Ks : List Key} {m : ℕ} → ((k : ℕ) → DenK label k K → ⊥) → Lack label Ks m
+      → Lack label (K ∷ Ks) (suc m)
 
 pub lack-map : (label label′ : List ℕ) (K₀ : Key) → ((k : ℕ) (K : Key) → DenK label k K → DenK label′ k K) → ((k : ℕ) (K : Key) → DenK label′ k K → (K ≡ K₀ → ⊥) → DenK label k K)
     → (Ks : List Key) (m : ℕ) → (In K₀ Ks → ⊥) → Lack label Ks m → Lack label′ Ks m
@@ -69,9 +71,9 @@ Back n [] = Unit {0}
 Back n (zero ∷ us) = Back (suc n) us
 Back n (suc v ∷ us) = (v / 8 < n) × Back (suc n) us
 
-abbrev pub Ends : List ℕ → Type 0
-Ends [] = Unit {0}
-Ends (e ∷ es) = (e < 257) × Ends es
+abbrev pub EndLabels : List ℕ → Type 0
+EndLabels [] = Unit {0}
+EndLabels (e ∷ es) = (e < 257) × EndLabels es
 
 pub up-at : (label : List ℕ) (ks : List ℕ) (Ks : List Key) (u : ℕ) → Dens label ks Ks → Back (length Ks) (u ∷ []) → At label (upNum ks u) (upPlace Ks u)
 unfolding upNum upPlace
@@ -109,7 +111,7 @@ rep-iff link label mem R R′ f r = record {
   closed = λ s P e i g h. f s P e .0 (r .closed s P e i g (f s (step P e i) g .1 h));
 }
 
-pub relinked-length : (link label : List ℕ) (k w : ℕ) → 8190 ≤ length link → k < 4096 → Chains link label 4096 → length (relinked link label k w) ≡ length link
+pub relinked-length : (link label : List ℕ) (k w : ℕ) → linkLength ≤ length link → k < keyLimit → Chains link label keyLimit → length (relinked link label k w) ≡ length link
 unfolding relinked pushed
 relinked-length link label k w n l c = rw (length-set, length-set) (taken-chains link label k n l c .1)
 
@@ -122,11 +124,17 @@ pub record St (S : Type 0) : Type 0 where
 module _ (S : Type 0) (mark : S → ℕ → ℕ → S) where
   -- the key for a label, found or taken from the free ones
   unfoldable pub keyFor : St S → ℕ → ℕ
-  keyFor σ w = pick (ltb (find (σ .link) (σ .label) w) 4096) (find (σ .link) (σ .label) w) (find (σ .link) (σ .label) 0 % 4096)
+  keyFor σ w = pick (ltb (find (σ .link) (σ .label) w) keyLimit) (find (σ .link) (σ .label) w)
+      (find (σ .link) (σ .label) 0 % keyLimit)
 
   unfoldable pub ensured : St S → ℕ → St S
-  ensured σ w = pick (ltb (find (σ .link) (σ .label) w) 4096) σ
-      (record { link = relinked (σ .link) (σ .label) (find (σ .link) (σ .label) 0 % 4096) w; label = set (σ .label) (find (σ .link) (σ .label) 0 % 4096) w; sets = σ .sets })
+  ensured σ w = pick (ltb (find (σ .link) (σ .label) w) keyLimit) σ
+      (record {
+        link = relinked (σ .link) (σ .label) (find (σ .link) (σ .label) 0 % keyLimit) w;
+        label = set (σ .label)
+            (find (σ .link) (σ .label) 0 % keyLimit) w;
+        sets = σ .sets;
+      })
 
   unfoldable pub marked : St S → ℕ → ℕ → St S
   marked σ k s = record { link = σ .link; label = σ .label; sets = mark (σ .sets) k s }
@@ -138,28 +146,30 @@ module _ (S : Type 0) (mark : S → ℕ → ℕ → S) where
   unfoldable pub insRun : St S → ℕ → List ℕ → List ℕ → List ℕ → St S
   insRun σ s ks [] es = σ
   insRun σ s ks (u ∷ us) [] = σ
-  insRun σ s ks (u ∷ us) (e ∷ es) = insRun (entered σ s (lab (upNum ks u) e)) s (ks ++ keyFor σ (lab (upNum ks u) e) ∷ []) us es
+  insRun σ s ks (u ∷ us) (e ∷ es) = insRun (entered σ s (lab (upNum ks u) e)) s
+      (ks ++ keyFor σ (lab (upNum ks u) e) ∷ []) us es
 
 module _ (S : Type 0) (mem : S → ℕ → ℕ → Type 0) (mark : S → ℕ → ℕ → S) (Ok : S → Type 0) where
   pub record Good (σ : St S) (R : ℕ → Place → ℕ → Type 0) : Type 0 where
     pub rep : Rep (σ .link) (σ .label) (mem (σ .sets)) R
-    pub full : Full (σ .label) (mem (σ .sets)) 4096
-    pub links : 8190 ≤ length (σ .link)
-    pub labels : 4096 ≤ length (σ .label)
+    pub full : Full (σ .label) (mem (σ .sets)) keyLimit
+    pub links : linkLength ≤ length (σ .link)
+    pub labels : keyLimit ≤ length (σ .label)
     pub ok : Ok (σ .sets)
 
   -- one item
-  pub record Stepped (σ τ : St S) (R : ℕ → Place → ℕ → Type 0) (s k : ℕ) (P : Place) (e : ℕ) (Ks : List Key) (m : ℕ) : Type 0 where
+  pub record Stepped (σ τ : St S) (R : ℕ → Place → ℕ → Type 0) (s k : ℕ) (P : Place) (e : ℕ) (Ks : List Key) (m : ℕ)
+      : Type 0 where
     pub good : Good τ (Plus R s P e)
     pub den : Den (τ .label) k P e
     pub keep : (j : ℕ) (K : Key) → DenK (σ .label) j K → DenK (τ .label) j K
     pub lack : Lack (τ .label) Ks m
     pub enough : m ≤ frees (τ .label)
 
-  module _ (mark-ok : (σ : S) (k s : ℕ) → Ok σ → k < 4096 → s < 512 → Ok (mark σ k s)) (mark-law : (σ : S) (k s : ℕ) → Ok σ → k < 4096 → s < 512 → (j t : ℕ) → mem (mark σ k s) j t ↔ (mem σ j t ⊎ ((j ≡ k) × (t ≡ s)))) where
+  module _ (mark-ok : (σ : S) (k s : ℕ) → Ok σ → k < keyLimit → s < slotCount → Ok (mark σ k s)) (mark-law : (σ : S) (k s : ℕ) → Ok σ → k < keyLimit → s < slotCount → (j t : ℕ) → mem (mark σ k s) j t ↔ (mem σ j t ⊎ ((j ≡ k) × (t ≡ s)))) where
     -- the bit of a key that is there
-    mark-good : (σ : St S) (R : ℕ → Place → ℕ → Type 0) (k s : ℕ) (P : Place) (e : ℕ) → Rep (σ .link) (σ .label) (mem (σ .sets)) R → Full (σ .label) (mem (σ .sets)) k → 8190 ≤ length (σ .link) → 4096 ≤ length (σ .label)
-        → Ok (σ .sets) → Den (σ .label) k P e → Above R s P → s < 512 → Good (marked S mark σ k s) (Plus R s P e)
+    mark-good : (σ : St S) (R : ℕ → Place → ℕ → Type 0) (k s : ℕ) (P : Place) (e : ℕ) → Rep (σ .link) (σ .label) (mem (σ .sets)) R → Full (σ .label) (mem (σ .sets)) k → linkLength ≤ length (σ .link) → keyLimit ≤ length (σ .label)
+        → Ok (σ .sets) → Den (σ .label) k P e → Above R s P → s < slotCount → Good (marked S mark σ k s) (Plus R s P e)
     unfolding marked Full
     mark-good σ R k s P e r f a b oks d up l = record {
       rep = set-rep (σ .link) (σ .label) (mem (σ .sets)) (mem (mark (σ .sets) k s)) R r k s P e d up (mark-law (σ .sets) k s oks (d .low) l);
@@ -169,20 +179,20 @@ module _ (S : Type 0) (mem : S → ℕ → ℕ → Type 0) (mark : S → ℕ →
       ok = mark-ok (σ .sets) k s oks (d .low) l;
     }
       where
-        go : (j : ℕ) → j < 4096 → (getD (σ .label) j 0 ≡ 0 → ⊥) → Dec (j ≡ k) → (t : ℕ) × mem (mark (σ .sets) k s) j t
+        go : (j : ℕ) → j < keyLimit → (getD (σ .label) j 0 ≡ 0 → ⊥) → Dec (j ≡ k) → (t : ℕ) × mem (mark (σ .sets) k s) j t
         go j q z (yes y) = (s, mark-law (σ .sets) k s oks (d .low) l j s .1 (inr (y, refl)))
         go j q z (no y) = let w = f j q z y in (w .0, mark-law (σ .sets) k s oks (d .low) l j (w .0) .1 (inl (w .1)))
 
-    full-any : (label : List ℕ) (mm : ℕ → ℕ → Type 0) (k : ℕ) → Full label mm 4096 → Full label mm k
+    full-any : (label : List ℕ) (mm : ℕ → ℕ → Type 0) (k : ℕ) → Full label mm keyLimit → Full label mm k
     unfolding Full
     full-any label mm k f j l z o = f j l z (λ y. omega arith)
 
-    step-has : (σ : St S) (R : ℕ → Place → ℕ → Type 0) (s n : ℕ) (P : Place) (e : ℕ) (Ks : List Key) (m k : ℕ) → Good σ R → At (σ .label) n P → e < 257 → Above R s P → s < 512
+    step-has : (σ : St S) (R : ℕ → Place → ℕ → Type 0) (s n : ℕ) (P : Place) (e : ℕ) (Ks : List Key) (m k : ℕ) → Good σ R → At (σ .label) n P → e < 257 → Above R s P → s < slotCount
         → Den (σ .label) k P e → Lack (σ .label) Ks m → m ≤ frees (σ .label) → Stepped σ (entered S mark σ s (lab n e)) R s (keyFor S mark σ (lab n e)) P e Ks m
     unfolding entered ensured keyFor marked
     step-has σ R s n P e Ks m k g a f up l d la en =
         let q = den-find (σ .link) (σ .label) (mem (σ .sets)) R (g .rep) n P e a f k d in
-        let z : ltb (find (σ .link) (σ .label) (lab n e)) 4096 ≡ true = rw q (lt-ltb k 4096 (d .low)) in
+        let z : ltb (find (σ .link) (σ .label) (lab n e)) keyLimit ≡ true = rw q (lt-ltb k keyLimit (d .low)) in
         rw (z, q) (record {
           good = mark-good σ R k s P e (g .rep) (full-any _ _ k (g .full)) (g .links) (g .labels) (g .ok) d up l;
           den = d;
@@ -191,7 +201,7 @@ module _ (S : Type 0) (mem : S → ℕ → ℕ → Type 0) (mark : S → ℕ →
           enough = en;
         })
 
-    step-new : (σ : St S) (R : ℕ → Place → ℕ → Type 0) (s n : ℕ) (P : Place) (e : ℕ) (Ks : List Key) (m : ℕ) → Good σ R → At (σ .label) n P → e < 257 → Above R s P → s < 512
+    step-new : (σ : St S) (R : ℕ → Place → ℕ → Type 0) (s n : ℕ) (P : Place) (e : ℕ) (Ks : List Key) (m : ℕ) → Good σ R → At (σ .label) n P → e < 257 → Above R s P → s < slotCount
         → ((k : ℕ) → Den (σ .label) k P e → ⊥) → (In (key P e) Ks → ⊥) → Lack (σ .label) Ks m → suc m ≤ frees (σ .label) → Stepped σ (entered S mark σ s (lab n e)) R s (keyFor S mark σ (lab n e)) P e Ks m
     unfolding entered ensured keyFor marked Full
     step-new σ R s n P e Ks m g a f up l d o la en = rw (z, mod-eq-of-lt low) (record {
@@ -208,21 +218,21 @@ module _ (S : Type 0) (mem : S → ℕ → ℕ → Type 0) (mark : S → ℕ →
         label : List ℕ
         label = σ .label
 
-        none′ : 4096 ≤ find link label (lab n e)
-        none′ = ⊎-elim {A = find link label (lab n e) < 4096} {B = 4096 ≤ find link label (lab n e)}
-            (λ h. absurd (d _ (find-den link label (mem (σ .sets)) R (g .rep) n P e a f h))) (λ h. h) (cut (decLt (find link label (lab n e)) 4096))
+        none′ : keyLimit ≤ find link label (lab n e)
+        none′ = ⊎-elim {A = find link label (lab n e) < keyLimit} {B = keyLimit ≤ find link label (lab n e)}
+            (λ h. absurd (d _ (find-den link label (mem (σ .sets)) R (g .rep) n P e a f h))) (λ h. h) (cut (decLt (find link label (lab n e)) keyLimit))
           where
-            cut : Dec (find link label (lab n e) < 4096) → (find link label (lab n e) < 4096) ⊎ (4096 ≤ find link label (lab n e))
+            cut : Dec (find link label (lab n e) < keyLimit) → (find link label (lab n e) < keyLimit) ⊎ (keyLimit ≤ find link label (lab n e))
             cut (yes h) = inl h
             cut (no h) = inr (omega arith)
 
-        z : ltb (find link label (lab n e)) 4096 ≡ false
-        z = le-ltb _ 4096 none′
+        z : ltb (find link label (lab n e)) keyLimit ≡ false
+        z = le-ltb _ keyLimit none′
 
         k : ℕ
         k = find link label 0
 
-        low : k < 4096
+        low : k < keyLimit
         low = free-found link label (g .rep .chains) (omega arith)
 
         isfree : getD label k 0 ≡ 0
@@ -261,7 +271,7 @@ module _ (S : Type 0) (mem : S → ℕ → ℕ → Type 0) (mark : S → ℕ →
         full′ : Full label′ (mem (σ .sets)) k
         full′ j q y w = g .full j q (λ x. y (other j w ∙ x)) (λ x. omega arith)
 
-    stepped : (σ : St S) (R : ℕ → Place → ℕ → Type 0) (s n : ℕ) (P : Place) (e : ℕ) (Ks : List Key) (m : ℕ) → Good σ R → At (σ .label) n P → e < 257 → Above R s P → s < 512
+    stepped : (σ : St S) (R : ℕ → Place → ℕ → Type 0) (s n : ℕ) (P : Place) (e : ℕ) (Ks : List Key) (m : ℕ) → Good σ R → At (σ .label) n P → e < 257 → Above R s P → s < slotCount
         → (In (key P e) Ks → ⊥) → Lack (σ .label) (key P e ∷ Ks) m → m ≤ frees (σ .label) → (m′ : ℕ) × Stepped σ (entered S mark σ s (lab n e)) R s (keyFor S mark σ (lab n e)) P e Ks m′
     stepped σ R s n P e Ks m g a f up l o (has k d la) en = (m, step-has σ R s n P e Ks m k g a f up l d la en)
     stepped σ R s n P e Ks m g a f up l o (new {m = m′} d la) en = (m′, step-new σ R s n P e Ks m′ g a f up l d o la en)
@@ -290,8 +300,8 @@ module _ (S : Type 0) (mem : S → ℕ → ℕ → Type 0) (mark : S → ℕ →
         last (inr z) = absurd z
 
     -- the whole term
-    pub ins-good : (us es : List ℕ) (σ : St S) (R : ℕ → Place → ℕ → Type 0) (s : ℕ) (ks : List ℕ) (Ks : List Key) (m : ℕ) → Good σ R → s < 512 → Dens (σ .label) ks Ks
-        → ((K : Key) → In K Ks → RK R s K) → Back (length Ks) us → Ends es → NoDup (keyList Ks us es) → Lack (σ .label) (keyList Ks us es) m → m ≤ frees (σ .label)
+    pub ins-good : (us es : List ℕ) (σ : St S) (R : ℕ → Place → ℕ → Type 0) (s : ℕ) (ks : List ℕ) (Ks : List Key) (m : ℕ) → Good σ R → s < slotCount → Dens (σ .label) ks Ks
+        → ((K : Key) → In K Ks → RK R s K) → Back (length Ks) us → EndLabels es → NoDup (keyList Ks us es) → Lack (σ .label) (keyList Ks us es) m → m ≤ frees (σ .label)
         → Good (insRun S mark σ s ks us es) (With R s (keyList Ks us es))
     unfolding insRun keyList
     ins-good [] es σ R s ks Ks m g l d i b f nd la en = record { rep = rep-iff _ _ _ R _ (λ t Q h. (inl, (λ w. ⊎-elim (λ x. x) (λ x. absurd (x .1)) w))) (g .rep); full = g .full; links = g .links; labels = g .labels; ok = g .ok }

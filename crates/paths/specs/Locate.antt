@@ -1,4 +1,4 @@
--- Serves document 01, 'Paths and keys': the key numbers of a term's items, 4096 for a key that no number has.
+-- Serves SCOPE.md, 'Paths and keys': the key numbers of a term's items, 4096 for a key that no number has.
 use Prim.Native.Nat.{ℕ, zero, suc, _+_, _-_, _*_, _/_, _%_, _≤_, _<_}
 use mathlib.Core.Path.{_≡_, refl, sym, ap, _∙_, subst}
 use mathlib.Core.Logic.{_⊎_, inl, inr, _↔_, ⊎-elim}
@@ -14,20 +14,22 @@ use Rattle.laws.specs.Choice.{pick}
 use Rattle.chains.specs.Chains.{Chains, find, foundFrom, find-sound}
 use Rattle.keys.specs.Keys.{Place, root, step, Key, key}
 use Rattle.paths.specs.Rep.{lab, lab-inj, At, top, kid, Den, Rep, find-den, find-none}
-use Rattle.paths.specs.Walk.{kidOf, upPlace, upNum, keyList}
-use Rattle.paths.specs.Insert.{DenK, Dens, Lack, done, has, new, Back, Ends, back-one}
+use Rattle.paths.specs.TreeWalk.{kidOf, upPlace, upNum, keyList}
+use Rattle.paths.specs.Insert.{DenK, Dens, Lack, done, has, new, Back, EndLabels, back-one}
+use Rattle.laws.specs.Sizes.{keyLimit, rootPlace, variableBase}
 
 unfoldable pub numList : List ℕ → List ℕ → List ℕ → List ℕ → List ℕ → List ℕ
 numList link label ks [] es = []
 numList link label ks (u ∷ us) [] = []
-numList link label ks (u ∷ us) (e ∷ es) = find link label (lab (upNum ks u) e) ∷ numList link label (ks ++ find link label (lab (upNum ks u) e) ∷ []) us es
+numList link label ks (u ∷ us) (e ∷ es) = find link label (lab (upNum ks u) e) ∷ numList link label
+    (ks ++ find link label (lab (upNum ks u) e) ∷ []) us es
 
 unfoldable pub missing : List ℕ → ℕ
 missing [] = 0
-missing (k ∷ ks) = pick (ltb k 4096) (missing ks) (suc (missing ks))
+missing (k ∷ ks) = pick (ltb k keyLimit) (missing ks) (suc (missing ks))
 
 abbrev pub DenM : List ℕ → ℕ → Key → Type 0
-DenM label k K = DenK label k K ⊎ ((k ≡ 4096) × ((j : ℕ) → DenK label j K → ⊥))
+DenM label k K = DenK label k K ⊎ ((k ≡ keyLimit) × ((j : ℕ) → DenK label j K → ⊥))
 
 abbrev pub DensM : List ℕ → List ℕ → List Key → Type 0
 DensM label [] [] = Unit {0}
@@ -48,21 +50,21 @@ densM-get label (_ ∷ ks) [] n d h = absurd d
 densM-get label (_ ∷ ks) (K ∷ Ks) zero d h = d .0
 densM-get label (_ ∷ ks) (K ∷ Ks) (suc n) d h = densM-get label ks Ks n (d .1) (omega arith)
 
-found-le : (link label : List ℕ) (w f x : ℕ) → foundFrom link label w f x ≤ 4096
+found-le : (link label : List ℕ) (w f x : ℕ) → foundFrom link label w f x ≤ keyLimit
 unfolding foundFrom
 found-le link label w zero x = omega arith
 found-le link label w (suc f) zero = omega arith
-found-le link label w (suc f) (suc k) = go (eqb (getD label (k % 4096) 0) w) (found-le link label w f (getD link (k % 4096) 0))
+found-le link label w (suc f) (suc k) = go (eqb (getD label (k % keyLimit) 0) w) (found-le link label w f (getD link (k % keyLimit) 0))
   where
-    go : (b : Bool) → foundFrom link label w f (getD link (k % 4096) 0) ≤ 4096 → pick b (k % 4096) (foundFrom link label w f (getD link (k % 4096) 0)) ≤ 4096
+    go : (b : Bool) → foundFrom link label w f (getD link (k % keyLimit) 0) ≤ keyLimit → pick b (k % keyLimit) (foundFrom link label w f (getD link (k % keyLimit) 0)) ≤ keyLimit
     go true h = omega arith
     go false h = h
 
-pub find-le : (link label : List ℕ) (w : ℕ) → find link label w ≤ 4096
+pub find-le : (link label : List ℕ) (w : ℕ) → find link label w ≤ keyLimit
 unfolding find
-find-le link label w = found-le link label w 4096 _
+find-le link label w = found-le link label w keyLimit _
 
-at-low : (label : List ℕ) (n : ℕ) (P : Place) → At label n P → (n ≡ 32776) ⊎ (n < 32768)
+at-low : (label : List ℕ) (n : ℕ) (P : Place) → At label n P → (n ≡ rootPlace) ⊎ (n < variableBase)
 at-low label n P top = inl refl
 at-low label n P (kid a l h f i m) = inr (omega arith)
 
@@ -72,20 +74,20 @@ at-parent label n P e i (kid {n = n′} {k = k} a l h f b m) = (k, record { num 
 module _ (link label : List ℕ) (mem : ℕ → ℕ → Type 0) (R : ℕ → Place → ℕ → Type 0) (r : Rep link label mem R) where
   -- a place that has a number
   den-at : (n : ℕ) (P : Place) (e : ℕ) → At label n P → e < 257 → DenM label (find link label (lab n e)) (key P e)
-  den-at n P e a f = go (decLt (find link label (lab n e)) 4096)
+  den-at n P e a f = go (decLt (find link label (lab n e)) keyLimit)
     where
-      go : Dec (find link label (lab n e) < 4096) → DenM label (find link label (lab n e)) (key P e)
+      go : Dec (find link label (lab n e) < keyLimit) → DenM label (find link label (lab n e)) (key P e)
       go (yes h) = inl (find-den link label mem R r n P e a f h)
       go (no h) = inr (let q = find-le link label (lab n e) in omega arith, find-none link label mem R r n P e a f (omega arith))
 
   -- a place below a key that has none
-  den-out : (P : Place) (e i f : ℕ) → f < 257 → i < 8 → ((j : ℕ) → Den label j P e → ⊥) → DenM label (find link label (lab (4096 * 8 + i) f)) (key (step P e i) f)
-  den-out P e i f b l h = inr (go (decLt (find link label (lab n f)) 4096), (λ j d. let q = at-parent label (d .num) P e i (d .at) in h (q .0) (q .1)))
+  den-out : (P : Place) (e i f : ℕ) → f < 257 → i < 8 → ((j : ℕ) → Den label j P e → ⊥) → DenM label (find link label (lab (keyLimit * 8 + i) f)) (key (step P e i) f)
+  den-out P e i f b l h = inr (go (decLt (find link label (lab n f)) keyLimit), (λ j d. let q = at-parent label (d .num) P e i (d .at) in h (q .0) (q .1)))
     where
       n : ℕ
-      n = 4096 * 8 + i
+      n = keyLimit * 8 + i
 
-      go : Dec (find link label (lab n f) < 4096) → find link label (lab n f) ≡ 4096
+      go : Dec (find link label (lab n f) < keyLimit) → find link label (lab n f) ≡ keyLimit
       go (no q) = let w = find-le link label (lab n f) in omega arith
       go (yes q) = let s = find-sound link label (lab n f) (r .chains) q in
           let d = r .means (find link label (lab n f)) q (λ z. omega arith) in
@@ -94,14 +96,14 @@ module _ (link label : List ℕ) (mem : ℕ → ℕ → Type 0) (R : ℕ → Pla
 
   up-den : (ks : List ℕ) (Ks : List Key) (u e : ℕ) → DensM label ks Ks → Back (length Ks) (u ∷ []) → e < 257 → DenM label (find link label (lab (upNum ks u) e)) (key (upPlace Ks u) e)
   unfolding upNum upPlace
-  up-den ks Ks zero e d b f = den-at 32776 root e top f
+  up-den ks Ks zero e d b f = den-at rootPlace root e top f
   up-den ks Ks (suc v) e d b f = go (getD ks (v / 8) 0) (getD Ks (v / 8) (key root 0)) (densM-get label ks Ks (v / 8) d (b .0))
     where
       go : (k : ℕ) (K : Key) → DenM label k K → DenM label (find link label (lab (k * 8 + v % 8) e)) (key (kidOf K (v % 8)) e)
       go k (key P g) (inl h) = den-at (k * 8 + v % 8) (step P g (v % 8)) e (kid {i = v % 8} (h .at) (h .low) (h .is) (h .fits) (omega arith) refl) f
       go k (key P g) (inr h) = rw (h .0) (den-out P g (v % 8) e f (omega arith) (h .1))
 
-  pub located : (us es : List ℕ) (ks : List ℕ) (Ks : List Key) → DensM label ks Ks → Back (length Ks) us → Ends es → DensM label (numList link label ks us es) (keyList Ks us es)
+  pub located : (us es : List ℕ) (ks : List ℕ) (Ks : List Key) → DensM label ks Ks → Back (length Ks) us → EndLabels es → DensM label (numList link label ks us es) (keyList Ks us es)
   unfolding numList keyList
   located [] es ks Ks d b f = tt
   located (u ∷ us) [] ks Ks d b f = tt
@@ -119,9 +121,9 @@ lack-of label [] (_ ∷ Ks) d = absurd d
 lack-of label (_ ∷ ks) [] d = absurd d
 lack-of label (k ∷ ks) (key P e ∷ Ks) d = go (d .0) (lack-of label ks Ks (d .1))
   where
-    go : DenM label k (key P e) → Lack label Ks (missing ks) → Lack label (key P e ∷ Ks) (pick (ltb k 4096) (missing ks) (suc (missing ks)))
-    go (inl h) l = rw (lt-ltb k 4096 (h .low)) (has k h l)
-    go (inr h) l = let q : 4096 ≤ k = omega (arith, h .0) in rw (le-ltb k 4096 q) (new (h .1) l)
+    go : DenM label k (key P e) → Lack label Ks (missing ks) → Lack label (key P e ∷ Ks) (pick (ltb k keyLimit) (missing ks) (suc (missing ks)))
+    go (inl h) l = rw (lt-ltb k keyLimit (h .low)) (has k h l)
+    go (inr h) l = let q : keyLimit ≤ k = omega (arith, h .0) in rw (le-ltb k keyLimit q) (new (h .1) l)
 
 -- where none is missing
 pub all-there : (label : List ℕ) (ks : List ℕ) (Ks : List Key) → DensM label ks Ks → ((K : Key) → In K Ks → (k : ℕ) × DenK label k K) → Dens label ks Ks

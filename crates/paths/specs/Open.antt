@@ -1,4 +1,4 @@
--- Serves document 01, 'Store': tables as an opening leaves them stand for the empty store.
+-- Serves SCOPE.md, 'Store': tables as an opening leaves them stand for the empty store.
 use Prim.Native.Nat.{ℕ, zero, suc, _+_, _-_, _*_, _/_, _%_, _≤_, _<_}
 use mathlib.Core.Path.{_≡_, refl, sym, ap, _∙_}
 use mathlib.Core.Logic.{_⊎_, inl, inr, _↔_, ⊎-elim}
@@ -12,15 +12,16 @@ use Rattle.chains.specs.Chains.{Chains, Chain, Linked, end, one, home}
 use Rattle.keys.specs.Keys.{Tm}
 use Rattle.paths.specs.Rep.{Den, Rep, Full, Unique}
 use Rattle.paths.specs.Insert.{St, Good}
-use Rattle.paths.specs.Store.{Stored}
+use Rattle.paths.specs.StoredTrees.{Stored}
+use Rattle.laws.specs.Sizes.{freeHead, keyLimit, linkLength}
 
 -- all keys on the chain of the free ones, in order
 pub record Fresh (link label : List ℕ) : Type 0 where
   pub next : (k : ℕ) → k < 4095 → getD link k 0 ≡ suc (suc k)
   pub last : getD link 4095 0 ≡ 0
-  pub heads : (b : ℕ) → 4096 ≤ b → b < 8189 → getD link b 0 ≡ 0
-  pub first : getD link 8189 0 ≡ 1
-  pub labels : (k : ℕ) → k < 4096 → getD label k 0 ≡ 0
+  pub heads : (b : ℕ) → keyLimit ≤ b → b < freeHead → getD link b 0 ≡ 0
+  pub first : getD link freeHead 0 ≡ 1
+  pub labels : (k : ℕ) → k < keyLimit → getD label k 0 ≡ 0
 
 seq : ℕ → ℕ → List ℕ
 seq k zero = []
@@ -46,25 +47,25 @@ unfolding seq
 seq-nodup k zero = tt
 seq-nodup k (suc n) = ((λ h. let r = seq-in (suc k) n k h in omega (arith, r .0)), seq-nodup (suc k) n)
 
-seq-linked : (link label : List ℕ) → Fresh link label → (n k : ℕ) → k + suc n ≡ 4096 → Linked link (suc k) (seq k (suc n))
+seq-linked : (link label : List ℕ) → Fresh link label → (n k : ℕ) → k + suc n ≡ keyLimit → Linked link (suc k) (seq k (suc n))
 unfolding seq
 seq-linked link label f zero k e = let z : k ≡ 4095 = omega arith in one {k = k} {xs = []} (rw (z, f .last) end)
 seq-linked link label f (suc n) k e = one {k = k} {xs = seq (suc k) (suc n)} (rw (f .next k (omega arith)) (seq-linked link label f n (suc k) (omega arith)))
 
-pub open-chains : (link label : List ℕ) → Fresh link label → Chains link label 4096
+pub open-chains : (link label : List ℕ) → Fresh link label → Chains link label keyLimit
 unfolding Chains home
-open-chains link label f b lo hi = go (ℕ-discrete b 8189)
+open-chains link label f b lo hi = go (ℕ-discrete b freeHead)
   where
-    at : (k : ℕ) → k < 4096 → home (getD label k 0) ≡ 8189
+    at : (k : ℕ) → k < keyLimit → home (getD label k 0) ≡ freeHead
     at k l = rw (f .labels k l)
 
-    go : Dec (b ≡ 8189) → Chain link label 4096 b
+    go : Dec (b ≡ freeHead) → Chain link label keyLimit b
     go (yes e) = record {
-      keys = seq 0 4096;
+      keys = seq 0 keyLimit;
       linked = rw (e, f .first) (seq-linked link label f 4095 0 (omega arith));
-      nodup = seq-nodup 0 4096;
-      from = λ k i. let r = seq-in 0 4096 k i in (omega (arith, r .1), at k (omega (arith, r .1)) ∙ sym e, (λ z. omega (arith, r .1)));
-      into = λ k l h z. in-seq 0 4096 k (omega arith) (omega arith);
+      nodup = seq-nodup 0 keyLimit;
+      from = λ k i. let r = seq-in 0 keyLimit k i in (omega (arith, r .1), at k (omega (arith, r .1)) ∙ sym e, (λ z. omega (arith, r .1)));
+      into = λ k l h z. in-seq 0 keyLimit k (omega arith) (omega arith);
     }
     go (no e) = record {
       keys = [];
@@ -75,7 +76,7 @@ open-chains link label f b lo hi = go (ℕ-discrete b 8189)
     }
 
 module _ (S : Type 0) (mem : S → ℕ → ℕ → Type 0) (mark : S → ℕ → ℕ → S) (Ok : S → Type 0) where
-  pub open-good : (σ : St S) → Fresh (σ .link) (σ .label) → 8190 ≤ length (σ .link) → 4096 ≤ length (σ .label) → Ok (σ .sets) → ((k s : ℕ) → mem (σ .sets) k s → ⊥)
+  pub open-good : (σ : St S) → Fresh (σ .link) (σ .label) → linkLength ≤ length (σ .link) → keyLimit ≤ length (σ .label) → Ok (σ .sets) → ((k s : ℕ) → mem (σ .sets) k s → ⊥)
       → Good S mem mark Ok σ (Stored (λ s. none))
   unfolding Unique Full
   open-good σ f a b o e = record {

@@ -1,4 +1,4 @@
--- Serves document 01, 'Paths and keys': what the key tables mean.
+-- Serves SCOPE.md, 'Paths and keys': what the key tables mean.
 use Prim.Native.Nat.{ℕ, zero, suc, _+_, _-_, _*_, _/_, _%_, _≤_, _<_}
 use mathlib.Core.Path.{_≡_, refl, sym, ap, _∙_, subst}
 use mathlib.Core.Logic.{_⊎_, inl, inr, _↔_, ⊎-elim}
@@ -9,6 +9,7 @@ use lib.ListN.{length, getD, set, length-set}
 use lib.Seq.{getD-set-same, getD-set-other}
 use Rattle.chains.specs.Chains.{Chains, find, relinked, find-sound, find-complete, relinked-chains}
 use Rattle.keys.specs.Keys.{Place, root, step, Key, key}
+use Rattle.laws.specs.Sizes.{keyLimit, linkLength, rootPlace}
 
 -- the label of the key with end e at the place numbered n; labels are never 0
 abbrev pub lab : ℕ → ℕ → ℕ
@@ -19,14 +20,15 @@ lab-inj n m e f a b h = (omega arith, omega arith)
 
 -- the place numbered n is P: the root is 32776, the argument i of key k is 8 * k + i
 pub data At (label : List ℕ) : ℕ → Place → Type 0 where
-  top : At label 32776 root
-  kid : {n m k e i : ℕ} {P : Place} → At label n P → k < 4096 → getD label k 0 ≡ lab n e → e < 257 → i < 8 → m ≡ k * 8 + i → At label m (step P e i)
+  top : At label rootPlace root
+  kid : {n m k e i : ℕ} {P : Place} → At label n P → k < keyLimit → getD label k 0 ≡ lab n e → e < 257 → i < 8
+      → m ≡ k * 8 + i → At label m (step P e i)
 
 -- key k is the key (P, e)
 pub record Den (label : List ℕ) (k : ℕ) (P : Place) (e : ℕ) : Type 0 where
   pub num : ℕ
   pub at : At label num P
-  pub low : k < 4096
+  pub low : k < keyLimit
   pub is : getD label k 0 ≡ lab num e
   pub fits : e < 257
 
@@ -42,7 +44,8 @@ at-fun label n P Q (kid {n = n₁} {k = k} {e = e} {i = i} {P = P′} a l h f b 
     let v : e ≡ e₂ = z .1 in cc
 
 unfoldable pub Unique : List ℕ → Type 0
-Unique label = (k j : ℕ) → k < 4096 → j < 4096 → getD label k 0 ≡ getD label j 0 → (getD label k 0 ≡ 0 → ⊥) → k ≡ j
+Unique label = (k j : ℕ) → k < keyLimit → j < keyLimit → getD label k 0 ≡ getD label j 0 → (getD label k 0 ≡ 0 → ⊥)
+    → k ≡ j
 
 pub at-inj : (label : List ℕ) → Unique label → (n m : ℕ) (P : Place) → At label n P → At label m P → n ≡ m
 unfolding Unique
@@ -65,13 +68,13 @@ den-inj label u k j P e a b =
 
 -- the tables stand for the relation R, slot s has the key (P, e)
 pub record Rep (link label : List ℕ) (mem : ℕ → ℕ → Type 0) (R : ℕ → Place → ℕ → Type 0) : Type 0 where
-  pub chains : Chains link label 4096
+  pub chains : Chains link label keyLimit
   pub unique : Unique label
-  pub means : (k : ℕ) → k < 4096 → (getD label k 0 ≡ 0 → ⊥) → (P : Place) × (e : ℕ) × Den label k P e
+  pub means : (k : ℕ) → k < keyLimit → (getD label k 0 ≡ 0 → ⊥) → (P : Place) × (e : ℕ) × Den label k P e
   pub there : (s : ℕ) (P : Place) (e : ℕ) → R s P e → (k : ℕ) × Den label k P e
   pub into : (k s : ℕ) (P : Place) (e : ℕ) → Den label k P e → mem k s → R s P e
   pub from : (k s : ℕ) (P : Place) (e : ℕ) → Den label k P e → R s P e → mem k s
-  pub free : (k s : ℕ) → k < 4096 → getD label k 0 ≡ 0 → mem k s → ⊥
+  pub free : (k s : ℕ) → k < keyLimit → getD label k 0 ≡ 0 → mem k s → ⊥
   pub closed : (s : ℕ) (P : Place) (e i f : ℕ) → R s (step P e i) f → R s P e
 
 pub carry : (R : ℕ → Place → ℕ → Type 0) (s : ℕ) (P Q : Place) (e f : ℕ) → P ≡ Q → e ≡ f → R s P e → R s Q f
@@ -79,11 +82,11 @@ carry R s P Q e f p q h = rw (← p, ← q) h
 
 -- every key in use, but for one, has a slot
 unfoldable pub Full : List ℕ → (ℕ → ℕ → Type 0) → ℕ → Type 0
-Full label mem out = (k : ℕ) → k < 4096 → (getD label k 0 ≡ 0 → ⊥) → (k ≡ out → ⊥) → (s : ℕ) × mem k s
+Full label mem out = (k : ℕ) → k < keyLimit → (getD label k 0 ≡ 0 → ⊥) → (k ≡ out → ⊥) → (s : ℕ) × mem k s
 
 -- the search finds exactly the key of a place and an end
 module _ (link label : List ℕ) (mem : ℕ → ℕ → Type 0) (R : ℕ → Place → ℕ → Type 0) (r : Rep link label mem R) (n : ℕ) (P : Place) (e : ℕ) (at : At label n P) (fits : e < 257) where
-  pub find-den : find link label (lab n e) < 4096 → Den label (find link label (lab n e)) P e
+  pub find-den : find link label (lab n e) < keyLimit → Den label (find link label (lab n e)) P e
   find-den h = record { num = n; at = at; low = h; is = find-sound link label (lab n e) (r .chains) h; fits = fits }
 
   pub den-find : (k : ℕ) → Den label k P e → find link label (lab n e) ≡ k
@@ -91,15 +94,15 @@ module _ (link label : List ℕ) (mem : ℕ → ℕ → Type 0) (R : ℕ → Pla
       let z : getD label k 0 ≡ lab n e = d .is ∙ ap (λ (q : ℕ). lab q e) (at-inj label (r .unique) (d .num) n P (d .at) at) in
       den-inj label (r .unique) _ k P e (find-den (find-complete link label (lab n e) k (r .chains) (d .low) z)) d
 
-  pub find-there : (s : ℕ) → R s P e → find link label (lab n e) < 4096
+  pub find-there : (s : ℕ) → R s P e → find link label (lab n e) < keyLimit
   find-there s h = let d = r .there s P e h in rw (den-find (d .0) (d .1)) (d .1 .low)
 
-  pub find-none : (4096 ≤ find link label (lab n e)) → (k : ℕ) → Den label k P e → ⊥
+  pub find-none : (keyLimit ≤ find link label (lab n e)) → (k : ℕ) → Den label k P e → ⊥
   find-none h k d = let z = den-find k d in let l = d .low in omega arith
 
 -- a free key gets the label of a place and an end that no key has
 module _ (link label : List ℕ) (mem : ℕ → ℕ → Type 0) (R : ℕ → Place → ℕ → Type 0) (r : Rep link label mem R) (n : ℕ) (P : Place) (e k : ℕ) (at : At label n P) (fits : e < 257)
-    (unfound : 4096 ≤ find link label (lab n e)) (low : k < 4096) (isfree : getD label k 0 ≡ 0) (len : 8190 ≤ length link) (len′ : 4096 ≤ length label) where
+    (unfound : keyLimit ≤ find link label (lab n e)) (low : k < keyLimit) (isfree : getD label k 0 ≡ 0) (len : linkLength ≤ length link) (len′ : keyLimit ≤ length label) where
   abbrev pub label′ : List ℕ
   label′ = set label k (lab n e)
 
@@ -122,7 +125,7 @@ module _ (link label : List ℕ) (mem : ℕ → ℕ → Type 0) (R : ℕ → Pla
   pub add-den : Den label′ k P e
   add-den = record { num = n; at = at-keep n P at; low = low; is = this; fits = fits }
 
-  fresh : (j : ℕ) → j < 4096 → getD label j 0 ≡ lab n e → ⊥
+  fresh : (j : ℕ) → j < keyLimit → getD label j 0 ≡ lab n e → ⊥
   fresh j l h = let z = find-complete link label (lab n e) j (r .chains) l h in omega arith
 
   pub add-rep : Rep (relinked link label k (lab n e)) label′ mem R
@@ -138,7 +141,7 @@ module _ (link label : List ℕ) (mem : ℕ → ℕ → Type 0) (R : ℕ → Pla
     closed = r .closed;
   }
     where
-      both : (i j : ℕ) → Dec (i ≡ k) → Dec (j ≡ k) → i < 4096 → j < 4096 → getD label′ i 0 ≡ getD label′ j 0 → (getD label′ i 0 ≡ 0 → ⊥) → i ≡ j
+      both : (i j : ℕ) → Dec (i ≡ k) → Dec (j ≡ k) → i < keyLimit → j < keyLimit → getD label′ i 0 ≡ getD label′ j 0 → (getD label′ i 0 ≡ 0 → ⊥) → i ≡ j
       both i j (yes a) (yes b) l m q z = a ∙ sym b
       both i j (yes a) (no b) l m q z = absurd (fresh j m (sym (other j b) ∙ sym q ∙ ap (λ (x : ℕ). getD label′ x 0) a ∙ this))
       both i j (no a) (yes b) l m q z = absurd (fresh i l (sym (other i a) ∙ q ∙ ap (λ (x : ℕ). getD label′ x 0) b ∙ this))
@@ -147,7 +150,7 @@ module _ (link label : List ℕ) (mem : ℕ → ℕ → Type 0) (R : ℕ → Pla
       uniq : Unique label′
       uniq i j l m q z = both i j (ℕ-discrete i k) (ℕ-discrete j k) l m q z
 
-      means′ : (j : ℕ) → j < 4096 → (getD label′ j 0 ≡ 0 → ⊥) → Dec (j ≡ k) → (Q : Place) × (f : ℕ) × Den label′ j Q f
+      means′ : (j : ℕ) → j < keyLimit → (getD label′ j 0 ≡ 0 → ⊥) → Dec (j ≡ k) → (Q : Place) × (f : ℕ) × Den label′ j Q f
       means′ j l z (yes a) = (P, e, rw a add-den)
       means′ j l z (no a) = let d = r .means j l (λ y. z (other j a ∙ y)) in (d .0, d .1, den-keep j (d .0) (d .1) (d .2))
 
@@ -160,7 +163,7 @@ module _ (link label : List ℕ) (mem : ℕ → ℕ → Type 0) (R : ℕ → Pla
       from′ : (j s : ℕ) (Q : Place) (f : ℕ) → Den label′ j Q f → R s Q f → mem j s
       from′ j s Q f d h = let c = r .there s Q f h in rw (den-inj label′ uniq j (c .0) Q f d (den-keep (c .0) Q f (c .1))) (r .from (c .0) s Q f (c .1) h)
 
-      free′ : (j s : ℕ) → j < 4096 → getD label′ j 0 ≡ 0 → mem j s → Dec (j ≡ k) → ⊥
+      free′ : (j s : ℕ) → j < keyLimit → getD label′ j 0 ≡ 0 → mem j s → Dec (j ≡ k) → ⊥
       free′ j s l z m (yes a) = let y : getD label′ j 0 ≡ lab n e = ap (λ (x : ℕ). getD label′ x 0) a ∙ this in omega arith
       free′ j s l z m (no a) = r .free j s l (sym (other j a) ∙ z) m
 
@@ -217,7 +220,7 @@ module _ (link label : List ℕ) (mem mem′ : ℕ → ℕ → Type 0) (R : ℕ 
 
 -- a key with no slot is freed
 module _ (link label : List ℕ) (mem : ℕ → ℕ → Type 0) (R : ℕ → Place → ℕ → Type 0) (r : Rep link label mem R) (k : ℕ) (P : Place) (e : ℕ) (d : Den label k P e)
-    (empty : (s : ℕ) → mem k s → ⊥) (full : Full label mem k) (len : 8190 ≤ length link) (len′ : 4096 ≤ length label) where
+    (empty : (s : ℕ) → mem k s → ⊥) (full : Full label mem k) (len : linkLength ≤ length link) (len′ : keyLimit ≤ length label) where
   abbrev pub gone : List ℕ
   gone = set label k 0
 
@@ -231,7 +234,7 @@ module _ (link label : List ℕ) (mem : ℕ → ℕ → Type 0) (R : ℕ → Pla
   nomem j t m y = empty t (rw y at m)
 
   -- no other key has the place of an argument of k
-  at-stay : (n : ℕ) (Q : Place) → At label n Q → (j f : ℕ) → j < 4096 → (j ≡ k → ⊥) → getD label j 0 ≡ lab n f → f < 257 → At gone n Q
+  at-stay : (n : ℕ) (Q : Place) → At label n Q → (j f : ℕ) → j < keyLimit → (j ≡ k → ⊥) → getD label j 0 ≡ lab n f → f < 257 → At gone n Q
   unfolding Full
   at-stay n Q top j f l z h b = top
   at-stay n Q (kid {n = n₁} {k = k₁} {e = e₁} {i = i₁} {P = Q₁} a l₁ h₁ b₁ c₁ m₁) j f l z h b =
@@ -273,6 +276,6 @@ module _ (link label : List ℕ) (mem : ℕ → ℕ → Type 0) (R : ℕ → Pla
       uniq i j l m q z = let a = out i z in let b = out j (λ y. z (q ∙ y)) in
           r .unique i j l m (sym (gone-other i a) ∙ q ∙ gone-other j b) (λ y. z (gone-other i a ∙ y))
 
-      freed : (j s : ℕ) → j < 4096 → getD gone j 0 ≡ 0 → mem j s → Dec (j ≡ k) → ⊥
+      freed : (j s : ℕ) → j < keyLimit → getD gone j 0 ≡ 0 → mem j s → Dec (j ≡ k) → ⊥
       freed j s l z m (yes a) = empty s (rw a at m)
       freed j s l z m (no a) = r .free j s l (sym (gone-other j a) ∙ z) m

@@ -1,11 +1,12 @@
--- Serves document 01, 'Paths and keys': the ups of a term, read off its flat list of items with the ups that are still to come.
+-- Serves SCOPE.md, 'Paths and keys': the ups of a term, read off its flat list of items with the ups that are still
+-- to come.
 use Prim.Native.Nat.{ℕ, zero, suc, _+_, _*_}
 use mathlib.Core.Path.{_≡_, ap, _∙_}
 use mathlib.Core.List.{List, [], _∷_, _++_, append-assoc, append-nil}
 use native.Mathlib.Omega.{arith}
 use Rattle.keys.specs.Keys.{Tm, Args, node, nil, cons, size, sizes}
 use Rattle.definitions.specs.Trees.{countArgs, itemsT, itemsA}
-use Rattle.paths.specs.Walk.{upsT, upsA}
+use Rattle.paths.specs.TreeWalk.{upsT, upsA}
 
 -- the ups of arguments i to i + a - 1 of item n
 unfoldable pub kids : ℕ → ℕ → ℕ → List ℕ

@@ -1,19 +1,10 @@
-// What the field at a place of the log orders (document 01, 'The log program').
+// What the field at a place of the log orders (SCOPE.md, 'The log program').
 use laws::number_at;
 use laws::wide;
 use log::Field;
+use orders::Order;
 ghost use Prim.Native.Nat.{_≤_, _<_};
 ghost use lib.ListN.{length};
-
-// What a field orders, with its fixed part; Nothing is every case of LOG.
-pub enum Order {
-    Open,
-    Insert,
-    Delete(usize),
-    Retrieve(usize),
-    Solve(usize),
-    Nothing,
-}
 
 // An order, where the rest of its payload starts and ends, which is where the next field starts.
 pub struct Task {
@@ -78,11 +69,19 @@ fn fixed(order: Order) -> usize {
     }
 }
 
-// What stands at a place before the input's end; a cut field orders nothing.
+// What stands at a place before the input's end; a cut field orders nothing, and so does an input of more than 65,535
+// bytes.
 pub fn task_at(input: &[u8], at: usize) -> Task
     requires { ⌜ at < length (now input) ⌝ }
     ensures { λ r. ⌜ (r .start ≤ r .end) × (at < r .end) × (r .end ≤ length (now (input .entry))) ⌝ }
 {
+    if 65535 < input.len() {
+        return Task {
+            order: Order::Nothing,
+            start: at,
+            end: input.len(),
+        };
+    }
     let taken = log::read(input, at);
     let field = taken.field;
     let end = taken.place;

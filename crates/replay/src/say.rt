@@ -1,51 +1,43 @@
-// The line of an answer (document 01, 'The log program').
-use retrieve::Retrieved;
-use retrieve::Solved;
-use store::Deleted;
-use store::Inserted;
-use store::Opened;
-use terms::Refusal;
+// The line of a reply (SCOPE.md, 'The log program').
+use calls::Reply;
+use orders::Order;
 ghost use Prim.Native.Nat.{_≤_};
+ghost use lib.ListN.{length};
 
-// What the field of a log was answered; Log is the refusal that only the program gives.
-pub enum Answer {
-    Log,
-    Opened(Opened),
-    Inserted(Inserted),
-    Deleted(Deleted),
-    Retrieved(Retrieved),
-    Solved(Solved),
+// The word that a line starts with: some letters of eight.
+struct Word {
+    letters: [u8; 8],
+    length: usize,
 }
 
-// The length of a line, after which the log goes on or stops.
-pub enum Said {
-    Line(usize),
-    Last(usize),
-}
-
-fn say_log(line: &mut [u8]) -> Said {
-    Said::Last(log::refused_line(line, b"log", Refusal::Log.number()))
-}
-
-// A refused signature stops the log too.
-fn say_opened(answer: Opened, line: &mut [u8]) -> Said {
-    match answer {
-        Opened::Open => Said::Line(log::plain_line(line, b"open")),
-        Opened::Refused(why) => Said::Last(log::refused_line(line, b"open", why.number())),
-    }
-}
-
-fn say_inserted(answer: Inserted, line: &mut [u8]) -> Said {
-    match answer {
-        Inserted::Slot(slot) => Said::Line(log::slot_line(line, b"insert", slot)),
-        Inserted::Refused(why) => Said::Line(log::refused_line(line, b"insert", why.number())),
-    }
-}
-
-fn say_deleted(answer: Deleted, line: &mut [u8]) -> Said {
-    match answer {
-        Deleted::Slot(slot) => Said::Line(log::slot_line(line, b"delete", slot)),
-        Deleted::Refused(why) => Said::Line(log::refused_line(line, b"delete", why.number())),
+fn word_of(order: Order) -> Word
+    ensures { λ r. ⌜ r .length ≤ length (r .letters) ⌝ }
+{
+    match order {
+        Order::Open => Word {
+            letters: *b"open    ",
+            length: 4,
+        },
+        Order::Insert => Word {
+            letters: *b"insert  ",
+            length: 6,
+        },
+        Order::Delete(_) => Word {
+            letters: *b"delete  ",
+            length: 6,
+        },
+        Order::Retrieve(_) => Word {
+            letters: *b"retrieve",
+            length: 8,
+        },
+        Order::Solve(_) => Word {
+            letters: *b"solve   ",
+            length: 5,
+        },
+        _ => Word {
+            letters: *b"log     ",
+            length: 3,
+        },
     }
 }
 
@@ -56,44 +48,57 @@ fn least(a: usize, b: usize) -> usize
 }
 
 // The listing, two bytes a slot, stands at the start of the answer buffer.
-fn say_found(candidates: usize, answers: usize, out: &[u8], line: &mut [u8]) -> usize {
+fn say_found(line: &mut [u8], word: &[u8], candidates: usize, answers: usize, out: &[u8]) -> usize {
     let n = least(answers, out.len() / 2) * 2;
-    log::found_line(line, b"retrieve", candidates, answers, &out[..n])
-}
-
-fn say_retrieved(answer: Retrieved, out: &[u8], line: &mut [u8]) -> Said {
-    match answer {
-        Retrieved::Listed(candidates, answers) => Said::Line(say_found(
-            candidates,
-            answers,
-            out,
-            line,
-        )),
-        Retrieved::Refused(why) => Said::Line(log::refused_line(line, b"retrieve", why.number())),
-    }
+    log::found_line(line, word, candidates, answers, &out[..n])
 }
 
 // The record stands at the start of the answer buffer.
-fn say_record(fields: usize, written: usize, out: &[u8], line: &mut [u8]) -> usize {
+fn say_record(line: &mut [u8], word: &[u8], fields: usize, written: usize, out: &[u8]) -> usize {
     let n = least(written, out.len());
-    log::solved_line(line, b"solve", fields, &out[..n])
+    log::solved_line(line, word, fields, &out[..n])
 }
 
-fn say_solved(answer: Solved, out: &[u8], line: &mut [u8]) -> Said {
-    match answer {
-        Solved::Record(fields, written) => Said::Line(say_record(fields, written, out, line)),
-        Solved::Refused(why) => Said::Line(log::refused_line(line, b"solve", why.number())),
+fn say_done(
+    order: Order,
+    first: usize,
+    second: usize,
+    word: &[u8],
+    out: &[u8],
+    line: &mut [u8],
+) -> usize {
+    match order {
+        Order::Open => log::plain_line(line, word),
+        Order::Retrieve(_) => say_found(line, word, first, second, out),
+        Order::Solve(_) => say_record(line, word, first, second, out),
+        _ => log::slot_line(line, word, first),
     }
 }
 
-// Writes the line of an answer, whose listing or record stands in the answer buffer.
-pub fn say(answer: Answer, out: &[u8], line: &mut [u8]) -> Said {
-    match answer {
-        Answer::Log => say_log(line),
-        Answer::Opened(got) => say_opened(got, line),
-        Answer::Inserted(got) => say_inserted(got, line),
-        Answer::Deleted(got) => say_deleted(got, line),
-        Answer::Retrieved(got) => say_retrieved(got, out, line),
-        Answer::Solved(got) => say_solved(got, out, line),
+// Writes the line of a reply, whose listing or record stands in the answer buffer, and answers its length.
+pub fn say(order: Order, reply: Reply, out: &[u8], line: &mut [u8]) -> usize {
+    let word = word_of(order);
+    let n = word.length;
+    let letters = word.letters;
+    match reply {
+        Reply::Done(first, second) => say_done(order, first, second, &letters[..n], out, line),
+        Reply::Refused(why) => log::refused_line(line, &letters[..n], why.number()),
+    }
+}
+
+// A refused signature stops the log, and so does what is no order.
+fn ends(order: Order) -> bool {
+    match order {
+        Order::Open => true,
+        Order::Nothing => true,
+        _ => false,
+    }
+}
+
+// Is this the log's last line.
+pub fn stops(order: Order, reply: Reply) -> bool {
+    match reply {
+        Reply::Done(_, _) => false,
+        Reply::Refused(_) => ends(order),
     }
 }

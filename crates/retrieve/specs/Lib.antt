@@ -1,6 +1,5 @@
-pub mod Listing
-pub mod Means
-pub mod One
+pub mod Recording
+pub mod RetrievalMeans
 pub mod Retrieving
 pub mod Solving
-pub mod Stands
+pub mod Those

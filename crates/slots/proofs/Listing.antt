@@ -17,6 +17,7 @@ use Rattle.laws.specs.Choice.{pick}
 use Rattle.laws.specs.Digits.{bit}
 use Rattle.laws.proofs.Lists.{front-turn, front-start, front-end}
 use Rattle.slots.specs.Slots.{has, membersFrom, members, listed, Next, next-above}
+use Rattle.laws.specs.Sizes.{slotCount}
 
 -- the number of ones among the digits of a word
 unfoldable pub digits : ℕ → ℕ → ℕ
@@ -79,34 +80,34 @@ size-start ws = refl
 
 pub size-end : (ws : List ℕ) (i : ℕ) → i ≡ 8 → tally ws 0 (64 * i) ≡ length (members ws)
 unfolding members
-size-end ws i e = rw e (sym (members-tally ws 0 512))
+size-end ws i e = rw e (sym (members-tally ws 0 slotCount))
 
 -- no slot of the set is passed over
-skip : (ws : List ℕ) (d from : ℕ) → from + d ≤ 512 → ((x : ℕ) → from ≤ x → x < from + d → has ws x ≡ 0)
-    → membersFrom ws from (512 - from) ≡ membersFrom ws (from + d) (512 - (from + d))
+skip : (ws : List ℕ) (d from : ℕ) → from + d ≤ slotCount → ((x : ℕ) → from ≤ x → x < from + d → has ws x ≡ 0)
+    → membersFrom ws from (slotCount - from) ≡ membersFrom ws (from + d) (slotCount - (from + d))
 unfolding membersFrom
 skip ws zero from h n = let e : from + 0 ≡ from = omega arith in rw e
 skip ws (suc d) from h n =
-    let e : 512 - from ≡ suc (512 - suc from) = omega arith in
+    let e : slotCount - from ≡ suc (slotCount - suc from) = omega arith in
     let f : from + suc d ≡ suc from + d = omega arith in
     let z : has ws from ≡ 1 → ⊥ = λ q. let o = n from (omega arith) (omega arith) in omega (arith, q, o) in
     rw (e, ne-eqb (has ws from) 1 z, f) (skip ws d (suc from) (omega arith) (λ x a b. n x (omega arith) (omega arith)))
 
-pub members-next : (ws : List ℕ) (from r : ℕ) → from ≤ 512 → Next ws from r → membersFrom ws from (512 - from) ≡ membersFrom ws r (512 - r)
+pub members-next : (ws : List ℕ) (from r : ℕ) → from ≤ slotCount → Next ws from r → membersFrom ws from (slotCount - from) ≡ membersFrom ws r (slotCount - r)
 members-next ws from r h n =
     let a = next-above ws from r n h in
     let e : from + (r - from) ≡ r = omega (arith, a) in
     rw e at (skip ws (r - from) from (omega (arith, a, n .most)) (λ x p q. n .passed x p (omega (arith, a, q))))
 
-pub members-here : (ws : List ℕ) (r : ℕ) → r < 512 → has ws r ≡ 1 → membersFrom ws r (512 - r) ≡ r ∷ membersFrom ws (r + 1) (512 - (r + 1))
+pub members-here : (ws : List ℕ) (r : ℕ) → r < slotCount → has ws r ≡ 1 → membersFrom ws r (slotCount - r) ≡ r ∷ membersFrom ws (r + 1) (slotCount - (r + 1))
 unfolding membersFrom
 members-here ws r h e =
-    let f : 512 - r ≡ suc (512 - (r + 1)) = omega arith in
+    let f : slotCount - r ≡ suc (slotCount - (r + 1)) = omega arith in
     rw (f, eq-eqb (has ws r) 1 e, add-one r)
 
-pub members-done : (ws : List ℕ) (r : ℕ) → 512 ≤ r → membersFrom ws r (512 - r) ≡ []
+pub members-done : (ws : List ℕ) (r : ℕ) → slotCount ≤ r → membersFrom ws r (slotCount - r) ≡ []
 unfolding membersFrom
-members-done ws r h = let e : 512 - r ≡ 0 = omega arith in rw e
+members-done ws r h = let e : slotCount - r ≡ 0 = omega arith in rw e
 
 pub length-listed : (ss : List ℕ) → length (listed ss) ≡ 2 * length ss
 unfolding listed
@@ -117,10 +118,10 @@ length-listed (s ∷ ss) = omega (arith, length-listed ss)
 pub record Listing (ws out out₀ : List ℕ) (at slot : ℕ) : Type 0 where
   pub within : at ≤ length (listed (members ws))
   pub same : length out ≡ length out₀
-  pub rest : drop at (listed (members ws)) ≡ listed (membersFrom ws slot (512 - slot))
+  pub rest : drop at (listed (members ws)) ≡ listed (membersFrom ws slot (slotCount - slot))
   pub filled : out ≡ sets out₀ 0 (take at (listed (members ws)))
-  pub here : slot < 512 → has ws slot ≡ 1
-  pub most : slot ≤ 512
+  pub here : slot < slotCount → has ws slot ≡ 1
+  pub most : slot ≤ slotCount
 
 listed-head : (s : ℕ) (ss : List ℕ) → listed (s ∷ ss) ≡ s / 256 ∷ s % 256 ∷ listed ss
 unfolding listed
@@ -136,9 +137,9 @@ list-start ws out r n = record {
   most = n .most;
 }
 
-module _ (ws out out₀ : List ℕ) (at slot : ℕ) (l : Listing ws out out₀ at slot) (h : slot < 512) where
-  ahead : drop at (listed (members ws)) ≡ slot / 256 ∷ slot % 256 ∷ listed (membersFrom ws (slot + 1) (512 - (slot + 1)))
-  ahead = l .rest ∙ ap listed (members-here ws slot h (l .here h)) ∙ listed-head slot (membersFrom ws (slot + 1) (512 - (slot + 1)))
+module _ (ws out out₀ : List ℕ) (at slot : ℕ) (l : Listing ws out out₀ at slot) (h : slot < slotCount) where
+  ahead : drop at (listed (members ws)) ≡ slot / 256 ∷ slot % 256 ∷ listed (membersFrom ws (slot + 1) (slotCount - (slot + 1)))
+  ahead = l .rest ∙ ap listed (members-here ws slot h (l .here h)) ∙ listed-head slot (membersFrom ws (slot + 1) (slotCount - (slot + 1)))
 
   pub list-room : at + 2 ≤ length (listed (members ws))
   list-room = let e = ap length ahead in let d = length-drop at (listed (members ws)) in omega (arith, e, d, l .within)
@@ -166,7 +167,7 @@ module _ (ws out out₀ : List ℕ) (at slot : ℕ) (l : Listing ws out out₀ a
         most = n .most;
       }
 
-pub list-end : (ws out out₀ : List ℕ) (at slot : ℕ) → Listing ws out out₀ at slot → 512 ≤ slot → out ≡ sets out₀ 0 (listed (members ws))
+pub list-end : (ws out out₀ : List ℕ) (at slot : ℕ) → Listing ws out out₀ at slot → slotCount ≤ slot → out ≡ sets out₀ 0 (listed (members ws))
 unfolding listed
 list-end ws out out₀ at slot l h = front-end out out₀ (listed (members ws)) at (l .filled) (go (l .rest ∙ ap listed (members-done ws slot h)))
   where

@@ -1,5 +1,6 @@
--- Document 01, 'Store' and 'Paths and keys': the operations on words are those on sets of slots. `has ws s` is 1 where slot s is in
--- the set and 0 where it is not; a set has eight words of 64 digits. The size is the length of `members` by the contract of `size`.
+-- SCOPE.md, 'Store' and 'Paths and keys': the operations on words are those on sets of slots. `has ws s` is 1 where
+-- slot s is in the set and 0 where it is not; a set has eight words of 64 digits. The size is the length of `members`
+-- by the contract of `size`.
 use Prim.Native.Nat.{ℕ, zero, suc, _+_, _-_, _*_, _/_, _%_, _^_, _≤_, _<_, min, max}
 use mathlib.Core.Path.{_≡_, refl, ap, _∙_}
 use mathlib.Core.Logic.{inl, inr}
@@ -16,6 +17,7 @@ use lib.Seq.{getD-set-same, getD-set-other, set-out}
 use Rattle.laws.specs.Digits.{bit, bit-and, bit-or, bit-xor, bit-pow-same, bit-pow-other, differ-self, differ-zero, bit-suc, bit-zero, some-bit}
 use Rattle.laws.specs.Members.{In, NoDup}
 use Rattle.slots.specs.Slots.{has, inserted, removed, both, either, others, words8, noneIn, membersFrom, members}
+use Rattle.laws.specs.Sizes.{slotCount}
 
 abbrev pub Words : List ℕ → Type 0
 Words ws = (i : ℕ) → i < 8 → getD ws i 0 < 2 ^ 64
@@ -33,20 +35,20 @@ bit-none : (i : ℕ) → bit 0 i ≡ 0
 bit-none i = rw (div-eq-of-lt (pow-pos i))
 
 -- the empty set has no slot
-pub has-empty : (s : ℕ) → s < 512 → has (replicate 8 0) s ≡ 0
+pub has-empty : (s : ℕ) → s < slotCount → has (replicate 8 0) s ≡ 0
 unfolding has
 has-empty s h = rw (getD-same 8 0 (s / 64) (omega arith)) (bit-none (s % 64))
 
 -- no number above 511 is a slot: it is in no set, and an insert or a remove of it leaves the set
-pub has-beyond : (ws : List ℕ) (s : ℕ) → length ws ≡ 8 → 512 ≤ s → has ws s ≡ 0
+pub has-beyond : (ws : List ℕ) (s : ℕ) → length ws ≡ 8 → slotCount ≤ s → has ws s ≡ 0
 unfolding has
 has-beyond ws s e h = rw (List·getD-eq-default ws 0 {n = s / 64} (omega arith)) (bit-none (s % 64))
 
-pub insert-beyond : (ws : List ℕ) (s : ℕ) → length ws ≡ 8 → 512 ≤ s → inserted ws s ≡ ws
+pub insert-beyond : (ws : List ℕ) (s : ℕ) → length ws ≡ 8 → slotCount ≤ s → inserted ws s ≡ ws
 unfolding inserted
 insert-beyond ws s e h = set-out ws (s / 64) _ (omega arith)
 
-pub remove-beyond : (ws : List ℕ) (s : ℕ) → length ws ≡ 8 → 512 ≤ s → removed ws s ≡ ws
+pub remove-beyond : (ws : List ℕ) (s : ℕ) → length ws ≡ 8 → slotCount ≤ s → removed ws s ≡ ws
 unfolding removed
 remove-beyond ws s e h = set-out ws (s / 64) _ (omega arith)
 
@@ -62,7 +64,7 @@ bit-not (suc k) w (suc i) h g =
     rw (bit-suc, bit-suc, f) (bit-not k (w / 2) i (omega (arith, e)) (omega arith))
 
 -- the full set has every slot
-pub has-full : (s : ℕ) → s < 512 → has (replicate 8 0xffff_ffff_ffff_ffff) s ≡ 1
+pub has-full : (s : ℕ) → s < slotCount → has (replicate 8 0xffff_ffff_ffff_ffff) s ≡ 1
 unfolding has
 has-full s h =
     let e : 0xffff_ffff_ffff_ffff ≡ 2 ^ 64 - 1 - 0 = refl in
@@ -131,12 +133,12 @@ getD-words8 f (suc (suc (suc (suc (suc (suc (suc zero))))))) h = refl
 getD-words8 f (suc (suc (suc (suc (suc (suc (suc (suc i)))))))) h = absurd (omega arith)
 
 -- the union has the slots that one of both has
-pub has-either : (us vs : List ℕ) (x : ℕ) → x < 512 → has (either us vs) x ≡ max (has us x) (has vs x)
+pub has-either : (us vs : List ℕ) (x : ℕ) → x < slotCount → has (either us vs) x ≡ max (has us x) (has vs x)
 unfolding has either
 has-either us vs x h = rw (getD-words8 _ (x / 64) (omega arith), bit-or)
 
 -- the complement has just the slots that the set has not
-pub has-others : (us : List ℕ) (x : ℕ) → Words us → x < 512 → has (others us) x ≡ 1 - has us x
+pub has-others : (us : List ℕ) (x : ℕ) → Words us → x < slotCount → has (others us) x ≡ 1 - has us x
 unfolding has others
 has-others us x w h = rw (getD-words8 _ (x / 64) (omega arith)) (bit-not 64 (getD us (x / 64) 0) (x % 64) (w (x / 64) (omega arith)) (omega arith))
 
@@ -157,11 +159,11 @@ ors-none us i (suc k) h j l = go (ℕ-discrete j (suc k)) (ors-none us i k)
     go (yes e) ih = rw e (omega (arith, parts))
     go (no n) ih = ih (omega (arith, parts)) j (omega arith)
 
-pub none-has : (us : List ℕ) → noneIn us ≡ true → (x : ℕ) → x < 512 → has us x ≡ 0
+pub none-has : (us : List ℕ) → noneIn us ≡ true → (x : ℕ) → x < slotCount → has us x ≡ 0
 unfolding has noneIn ors
 none-has us h x l = ors-none us (x % 64) 7 (let e : ors us 7 ≡ 0 = eqb-true (ors us 7) 0 h in rw e (bit-none (x % 64))) (x / 64) (omega arith)
 
-pub has-none : (us : List ℕ) → Words us → ((x : ℕ) → x < 512 → has us x ≡ 0) → noneIn us ≡ true
+pub has-none : (us : List ℕ) → Words us → ((x : ℕ) → x < slotCount → has us x ≡ 0) → noneIn us ≡ true
 unfolding has noneIn
 has-none us w h =
     rw (word 0 (omega arith), word 1 (omega arith), word 2 (omega arith), word 3 (omega arith), word 4 (omega arith), word 5 (omega arith), word 6 (omega arith), word 7 (omega arith))
@@ -231,15 +233,15 @@ has-from ws from (suc k) x a b e = go (ℕ-discrete x from) (ℕ-discrete (has w
 -- the listing ascends, has each slot of the set, and nothing else, once
 pub members-ascend : (ws : List ℕ) → Ascends 0 (members ws)
 unfolding members
-members-ascend ws = from-ascends ws 0 512
+members-ascend ws = from-ascends ws 0 slotCount
 
-pub members-has : (ws : List ℕ) (x : ℕ) → In x (members ws) → (x < 512) × (has ws x ≡ 1)
+pub members-has : (ws : List ℕ) (x : ℕ) → In x (members ws) → (x < slotCount) × (has ws x ≡ 1)
 unfolding members
-members-has ws x i = let r = from-has ws 0 512 x i in ((let q = r .0 in omega (arith, q)), r .1)
+members-has ws x i = let r = from-has ws 0 slotCount x i in ((let q = r .0 in omega (arith, q)), r .1)
 
-pub has-members : (ws : List ℕ) (x : ℕ) → x < 512 → has ws x ≡ 1 → In x (members ws)
+pub has-members : (ws : List ℕ) (x : ℕ) → x < slotCount → has ws x ≡ 1 → In x (members ws)
 unfolding members
-has-members ws x h e = has-from ws 0 512 x (omega arith) (omega arith) e
+has-members ws x h e = has-from ws 0 slotCount x (omega arith) (omega arith) e
 
 pub members-once : (ws : List ℕ) → NoDup (members ws)
 members-once ws = ascends-once 0 (members ws) (members-ascend ws)

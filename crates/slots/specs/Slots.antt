@@ -1,4 +1,4 @@
--- Document 01, 'Store' and 'Paths and keys': a set of slots as eight words, slot s in word s / 64 at weight 2^(s mod 64).
+-- SCOPE.md, 'Store' and 'Paths and keys': a set of slots as eight words, slot s in word s / 64 at weight 2^(s mod 64).
 use Prim.Native.Nat.{ℕ, zero, suc, _-_, _*_, _/_, _%_, _^_, _≤_, _<_}
 use mathlib.Core.Path.{_≡_, refl}
 use mathlib.Core.List.{List, [], _∷_}
@@ -12,6 +12,7 @@ use native.Mathlib.Omega.{arith}
 use native.Mathlib.Decide.{decLt}
 use Rattle.laws.specs.Choice.{pick}
 use Rattle.laws.specs.Digits.{bit}
+use Rattle.laws.specs.Sizes.{slotCount}
 
 -- 1 where the slot s is in the set, else 0
 unfoldable pub has : List ℕ → ℕ → ℕ
@@ -42,19 +43,23 @@ others us = words8 (λ i. 2 ^ 64 - 1 - getD us i 0)
 -- has the set no slot
 unfoldable pub noneIn : List ℕ → Bool
 noneIn us =
-    eqb (bitOr (bitOr (bitOr (bitOr (bitOr (bitOr (bitOr (getD us 0 0) (getD us 1 0)) (getD us 2 0)) (getD us 3 0)) (getD us 4 0)) (getD us 5 0)) (getD us 6 0)) (getD us 7 0)) 0
+    eqb
+    (bitOr
+    (bitOr
+    (bitOr (bitOr (bitOr (bitOr (bitOr (getD us 0 0) (getD us 1 0)) (getD us 2 0)) (getD us 3 0)) (getD us 4 0))
+    (getD us 5 0)) (getD us 6 0)) (getD us 7 0)) 0
 
 -- r is the least slot of the set at or after from, or 512 where there is none
 pub record Next (ws : List ℕ) (from r : ℕ) : Type 0 where
-  pub above : r < 512 → from ≤ r
-  pub most : r ≤ 512
-  pub member : r < 512 → has ws r ≡ 1
+  pub above : r < slotCount → from ≤ r
+  pub most : r ≤ slotCount
+  pub member : r < slotCount → has ws r ≡ 1
   pub passed : (x : ℕ) → from ≤ x → x < r → has ws x ≡ 0
 
-pub next-above : (ws : List ℕ) (from r : ℕ) → Next ws from r → from ≤ 512 → from ≤ r
-next-above ws from r n h = go (decLt r 512)
+pub next-above : (ws : List ℕ) (from r : ℕ) → Next ws from r → from ≤ slotCount → from ≤ r
+next-above ws from r n h = go (decLt r slotCount)
   where
-    go : Dec (r < 512) → from ≤ r
+    go : Dec (r < slotCount) → from ≤ r
     go (yes l) = n .above l
     go (no l) = omega arith
 
@@ -76,13 +81,14 @@ next-one ws from a b h k = go (decLt a b) (decLt b a)
 -- the slots of the set among the k from `from` on, ascending
 unfoldable pub membersFrom : List ℕ → ℕ → ℕ → List ℕ
 membersFrom ws from zero = []
-membersFrom ws from (suc k) = pick (eqb (has ws from) 1) (from ∷ membersFrom ws (suc from) k) (membersFrom ws (suc from) k)
+membersFrom ws from (suc k) = pick (eqb (has ws from) 1) (from ∷ membersFrom ws (suc from) k)
+    (membersFrom ws (suc from) k)
 
 -- the slots of the set, ascending
 unfoldable pub members : List ℕ → List ℕ
-members ws = membersFrom ws 0 512
+members ws = membersFrom ws 0 slotCount
 
--- a listing: two bytes a slot, high byte first (document 01, 'Numbers of refusal')
+-- a listing: two bytes a slot, high byte first (SCOPE.md, 'Numbers of refusal')
 unfoldable pub listed : List ℕ → List ℕ
 listed [] = []
 listed (s ∷ ss) = s / 256 ∷ s % 256 ∷ listed ss

@@ -1,4 +1,6 @@
-// A set of the slots 0 to 511: slot s in word s / 64 at weight 2^(s mod 64) (document 01, 'Paths and keys').
+// A set of the slots 0 to 511: slot s in word s / 64 at weight 2^(s mod 64) (SCOPE.md, 'Paths and keys').
+use laws::SLOTS;
+use laws::USED;
 use laws::low;
 ghost use mathlib.Core.Path.{_≡_};
 ghost use mathlib.Core.List.{List};
@@ -8,6 +10,7 @@ ghost use lib.Dec.{eqb};
 ghost use lib.ListN.{length, getD, set, replicate};
 ghost use lib.Seq.{sets};
 ghost use Rattle.slots.specs.Slots.{has, inserted, removed, both, either, others, members, listed, listedInto, noneIn, Next};
+ghost use Rattle.laws.specs.Sizes.{slotCount};
 
 pub struct SlotSet {
     pub words: [u64; 8],
@@ -34,9 +37,9 @@ fn from_bit(w: u64, k: usize) -> u64
 }
 
 impl SlotSet {
-    pub const WORDS: usize = 8;
+    pub const WORDS: usize = USED;
 
-    pub const CAPACITY: usize = 512;
+    pub const CAPACITY: usize = SLOTS;
 
     pub fn empty() -> SlotSet
         ensures { λ r. ⌜ r .words ≡ replicate 8 0 ⌝ }
@@ -108,24 +111,17 @@ impl SlotSet {
     pub fn or(self, other: SlotSet) -> SlotSet
         ensures { λ r. ⌜ r .words ≡ either (self .words) (other .words) ⌝ }
     {
-        let a = self.words;
-        let b = other.words;
-        SlotSet {
-            words: [
-                a[0] | b[0],
-                a[1] | b[1],
-                a[2] | b[2],
-                a[3] | b[3],
-                a[4] | b[4],
-                a[5] | b[5],
-                a[6] | b[6],
-                a[7] | b[7],
-            ],
+        let mut out = [0u64; Self::WORDS];
+        let mut i: usize = 0;
+        while i < Self::WORDS {
+            out[i] = self.words[i] | other.words[i];
+            i += 1;
         }
+        SlotSet { words: out }
     }
 
     pub fn size(self) -> usize
-        ensures { λ r. ⌜ (r ≡ length (members (self .words))) × (r ≤ 512) ⌝ }
+        ensures { λ r. ⌜ (r ≡ length (members (self .words))) × (r ≤ slotCount) ⌝ }
     {
         let mut n: usize = 0;
         let mut i: usize = 0;
@@ -140,18 +136,26 @@ impl SlotSet {
     pub fn complement(self) -> SlotSet
         ensures { λ r. ⌜ r .words ≡ others (self .words) ⌝ }
     {
-        let a = self.words;
-        SlotSet {
-            words: [!a[0], !a[1], !a[2], !a[3], !a[4], !a[5], !a[6], !a[7]],
+        let mut rest = [0u64; Self::WORDS];
+        let mut i: usize = 0;
+        while i < Self::WORDS {
+            rest[i] = !self.words[i];
+            i += 1;
         }
+        SlotSet { words: rest }
     }
 
     // Has the set no slot.
     pub fn is_empty(self) -> bool
         ensures { λ r. ⌜ r ≡ noneIn (self .words) ⌝ }
     {
-        let a = self.words;
-        (a[0] | a[1] | a[2] | a[3] | a[4] | a[5] | a[6] | a[7]) == 0
+        let mut any = self.words[0];
+        let mut i: usize = 1;
+        while i < Self::WORDS {
+            any |= self.words[i];
+            i += 1;
+        }
+        any == 0
     }
 
     // The least slot of the set at or after `from`, or 512.
@@ -178,7 +182,7 @@ impl SlotSet {
         self.next(0)
     }
 
-    // The slots, ascending, two bytes each, high byte first (document 01, 'Numbers of refusal').
+    // The slots, ascending, two bytes each, high byte first (SCOPE.md, 'Numbers of refusal').
     fn write(self, out: &mut [u8])
         requires { ⌜ 2 * length (members (self .words)) ≤ length (now out) ⌝ }
         ensures { λ _. ⌜ now (out .exit) ≡ sets (now (out .entry)) 0 (listed (members (self .words))) ⌝ }
@@ -195,7 +199,8 @@ impl SlotSet {
 
     // Writes the listing where there is room for it, and else nothing; the number of slots.
     pub fn list(self, out: &mut [u8]) -> usize
-        ensures { λ r. ⌜ (r ≡ length (members (self .words))) × (r ≤ 512) × (now (out .exit) ≡ listedInto (self .words) (now (out .entry))) ⌝ }
+        ensures { λ r. ⌜ (r ≡ length (members (self .words))) × (r ≤ slotCount)
+            × (now (out .exit) ≡ listedInto (self .words) (now (out .entry))) ⌝ }
     {
         let n = self.size();
         if out.len() < 2 * n {

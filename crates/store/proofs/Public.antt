@@ -1,52 +1,42 @@
 -- The ways out of the calls, over plain contents of the tables.
 use Prim.Native.Nat.{ℕ, zero, suc, _+_, _-_, _*_, _≤_, _<_}
 use mathlib.Core.Path.{_≡_, refl, sym, ap, _∙_}
-use mathlib.Core.List.{List}
-use mathlib.Core.Bool.{Bool, true, false}
+use mathlib.Core.List.{List, []}
+use mathlib.Core.Bool.{Bool, true, false, not}
 use native.Mathlib.Omega.{arith}
 use native.Mathlib.Decide.{ℕ-discrete, decLt}
-use borrow.Author.Tests.{lt-ltb, le-ltb, ne-eqb, eq-eqb}
+use borrow.Author.Tests.{not-true, not-false, lt-ltb, le-ltb, ne-eqb, eq-eqb}
 use lib.Dec.{ltb, eqb}
-use lib.ListN.{length, take}
+use lib.ListN.{length, take, replicate}
 use lib.Seq.{sets}
 use Rattle.laws.specs.Choice.{pick}
 use Rattle.slots.specs.Slots.{has, inserted, removed, others, members, listed, listedInto, into-none, into-all, Next, next-above}
+use Rattle.slots.specs.Sets.{has-beyond}
 use Rattle.terms.specs.declared.Refusal.{Refusal}
-use Rattle.terms.specs.declared.Refusal.the-variants.{Table, Signature, Relation, Slot, Size, Odd, Symbol, Shape, Key, Argument, Full, Keys, Nothing, Long, Room, Log}
+use Rattle.terms.specs.declared.Refusal.the-variants as Refusal
 use Rattle.terms.specs.declared.Checked.{Checked}
 use Rattle.terms.specs.Refusals.{numberOf, checkedNumber}
+use Rattle.terms.specs.Numbers.{number-some}
 use Rattle.terms.specs.Terms.{sigRefusal, refusal}
 use Rattle.keys.specs.Bytes.{isKey}
-use Rattle.bank.specs.Bank.{Sets, four, met}
+use Rattle.definitions.specs.Answers.{Answer, refused, done, refuse, opened, slot}
+use Rattle.chains.specs.FreeChain.{Freed}
+use Rattle.keysets.specs.KeySets.{Sets, four, met}
 use Rattle.paths.specs.Insert.{St}
-use Rattle.layout.specs.Layout.{longEnough, signatureOf, usedOf, isUsed, blank, signed, withTerm}
-use Rattle.walks.specs.Fill.{tables}
-use Rattle.store.specs.Links.{freed-is}
-use Rattle.store.specs.Opening.{Cleared}
+use Rattle.layout.specs.Layout.{longEnough, Long, signatureOf, usedOf, isUsed, blank, signed, withTerm}
 use Rattle.layout.specs.Tables.{Tables, held, ample}
-use Rattle.store.specs.Tables.{indexOf, upsOf, endsOf, Outlined, roomFor, withKeys, withoutTerm, openedWith, leastFrom, freeSlot, renewed, insertedAt, deletedAt, keyNumber, slotsWith}
-use Rattle.store.specs.Calls.{done, refusedBy, opening, inserting, deleting, listing, asking}
-
-positive : (w : Refusal) → numberOf w ≡ 0 → ⊥
-positive Table e = omega arith
-positive Signature e = omega arith
-positive Relation e = omega arith
-positive Slot e = omega arith
-positive Size e = omega arith
-positive Odd e = omega arith
-positive Symbol e = omega arith
-positive Shape e = omega arith
-positive Key e = omega arith
-positive Argument e = omega arith
-positive Full e = omega arith
-positive Keys e = omega arith
-positive Nothing e = omega arith
-positive Long e = omega arith
-positive Room e = omega arith
-positive Log e = omega arith
+use Rattle.layout.proofs.LayoutLaws.{long}
+use Rattle.termkeys.specs.Fill.{Sized, tables, Both, both, insFill, delFill}
+use Rattle.calls.specs.declared.Reply.the-variants as Reply
+use Rattle.calls.specs.Outcome.{outcome, told, result, guarded, refused-told, done-told}
+use Rattle.store.specs.Kept.{length-used}
+use Rattle.store.specs.Links.{freed-is}
+use Rattle.store.specs.Tables.{indexOf, upsOf, endsOf, Outlined, noNumbers, KeysIn, roomFor, withKeys, openedWith, leastFrom, freeSlot, renewed, insertedAt, deletedAt, keyNumber, slotsWith}
+use Rattle.store.specs.Calls.{opening, insertAnswer, inserting, deleting, asking}
+use Rattle.laws.specs.Sizes.{keyLimit, linkLength, setLength, slotCount}
 
 -- the least slot
-least-is : (k : ℕ) (ws : List ℕ) (from r : ℕ) → from + k ≡ 512 → Next ws from r → r ≡ leastFrom ws from k
+least-is : (k : ℕ) (ws : List ℕ) (from r : ℕ) → from + k ≡ slotCount → Next ws from r → r ≡ leastFrom ws from k
 unfolding leastFrom
 least-is zero ws from r e n = let a = next-above ws from r n (omega arith) in let b = n .most in omega arith
 least-is (suc k) ws from r e n = go (ℕ-discrete (has ws from) 1) (least-is k ws (suc from) r (omega arith))
@@ -70,137 +60,161 @@ least-is (suc k) ws from r e n = go (ℕ-discrete (has ws from) 1) (least-is k w
 
 pub free-slot : (u ws vs : List ℕ) (s : ℕ) → ws ≡ usedOf u → vs ≡ others ws → Next vs 0 s → s ≡ freeSlot u
 unfolding freeSlot
-free-slot u ws vs s e f n = let m : Next (others (usedOf u)) 0 s = rw (f, e) at n in least-is 512 (others (usedOf u)) 0 s refl m
+free-slot u ws vs s e f n = let m : Next (others (usedOf u)) 0 s = rw (f, e) at n in least-is slotCount (others (usedOf u)) 0 s refl m
 
--- the tables are long enough, or not
-pub fair : (T : Tables) (r x : Bool) → r ≡ longEnough (length (T .bytes)) (length (T .used)) (length (T .label)) (length (T .link)) (length (T .s0)) (length (T .s1)) (length (T .s2)) (length (T .s3)) → r ≡ x → ample T ≡ x
-unfolding ample
-fair T r x e f = sym e ∙ f
+-- what the test of the lengths tells; r is what it answered
+module _ (T : Tables) (r : Bool) (e : r ≡ longEnough (length (T .bytes)) (length (T .used)) (length (T .label)) (length (T .link)) (length (T .s0)) (length (T .s1)) (length (T .s2)) (length (T .s3))) where
+  pub ample-not : not r ≡ true → ample T ≡ false
+  unfolding ample
+  ample-not f = sym e ∙ not-true r f
 
-refused-not : (n : ℕ) (k : Checked) (w : Refusal) → checkedNumber k ≡ n → k ≡ Checked.Refused w → (numberOf w ≡ n) × (eqb n 0 ≡ false)
-refused-not n k w e f = let z : numberOf w ≡ n = sym (ap checkedNumber f) ∙ e in (z, ne-eqb n 0 (λ y. positive w (z ∙ y)))
+  pub ample-is : not r ≡ false → ample T ≡ true
+  unfolding ample
+  ample-is f = sym e ∙ not-false r f
+
+pub lengths : (b u l k c d e f : ℕ) (r : Bool) → r ≡ longEnough b u l k c d e f → not r ≡ false → Long b u l k c d e f
+lengths b u l k c d e f r p q = long b u l k c d e f (sym p ∙ not-false r q)
+
+pub sized : (b u : ℕ) (link label s0 s1 s2 s3 : List ℕ) → Long b u (length label) (length link) (length s0) (length s1) (length s2) (length s3) → Sized link label s0 s1 s2 s3
+sized b u link label s0 s1 s2 s3 L = record { links = L .links; labels = L .labels; l0 = L .l0; l1 = L .l1; l2 = L .l2; l3 = L .l3 }
+
+-- THE WAYS OUT of a call that looks at the tables' lengths first
+module _ (T S : Tables) (out : List ℕ) (x : Answer) where
+  too-short : ample T ≡ false → outcome (Reply.Refused Refusal.Table) T out ≡ told out (result (guarded T x) T S)
+  too-short a = refused-told Refusal.Table T S out (guarded T x) (rw a)
+
+  refuses : (w : Refusal) → ample T ≡ true → x ≡ refuse w → outcome (Reply.Refused w) T out ≡ told out (result (guarded T x) T S)
+  refuses w a e = refused-told w T S out (guarded T x) (rw a e)
+
+  answers : (p q : ℕ) (w : List ℕ) (S′ : Tables) (out′ : List ℕ) → ample T ≡ true → x ≡ done p q w → S′ ≡ S → out′ ≡ sets out 0 w → outcome (Reply.Done p q) S′ out′ ≡ told out (result (guarded T x) T S)
+  answers p q w S′ out′ a e f g = done-told p q w T S S′ out out′ (guarded T x) (rw a e) f g
+
+-- what a check of number n has shown
+module _ (n : ℕ) (k : Checked) (e : checkedNumber k ≡ n) where
+  bad : (w : Refusal) (a : Answer) → k ≡ Checked.Refused w → pick (eqb n 0) a (refused n) ≡ refuse w
+  bad w a f = let z : numberOf w ≡ n = sym (ap checkedNumber f) ∙ e in rw (ne-eqb n 0 (λ y. number-some w (z ∙ y)), z)
+
+  fine : k ≡ Checked.Good → eqb n 0 ≡ true
+  fine f = eq-eqb n 0 (sym e ∙ ap checkedNumber f)
 
 -- OPEN
-pub open-short : (T : Tables) (sig : List ℕ) → ample T ≡ false → refusedBy 1 T ≡ opening T sig
-unfolding opening
-open-short T sig a = rw a
+module _ (T : Tables) (sig : List ℕ) where
+  pub open-short : ample T ≡ false → outcome (Reply.Refused Refusal.Table) T [] ≡ told [] (opening T sig)
+  unfolding opening
+  open-short a = too-short T (openedWith T sig) [] _ a
 
-pub open-bad : (T : Tables) (sig : List ℕ) (k : Checked) (w : Refusal) → ample T ≡ true → checkedNumber k ≡ sigRefusal sig → k ≡ Checked.Refused w → refusedBy (numberOf w) T ≡ opening T sig
-unfolding opening
-open-bad T sig k w a e f = let z = refused-not (sigRefusal sig) k w e f in rw (a, z .1, z .0)
+  pub open-bad : (k : Checked) (w : Refusal) → ample T ≡ true → checkedNumber k ≡ sigRefusal sig → k ≡ Checked.Refused w → outcome (Reply.Refused w) T [] ≡ told [] (opening T sig)
+  unfolding opening
+  open-bad k w a e f = refuses T (openedWith T sig) [] _ w a (bad (sigRefusal sig) k e w opened f)
 
-pub open-done : (T : Tables) (sig b′ u′ l′ k′ c′ d′ e′ f′ : List ℕ) (k : Checked) → ample T ≡ true → checkedNumber k ≡ sigRefusal sig → k ≡ Checked.Good → 8190 ≤ length (T .link)
-    → b′ ≡ signed (T .bytes) sig → u′ ≡ blank 8 (T .used) → Cleared (T .link) (T .label) (T .s0) (T .s1) (T .s2) (T .s3) k′ l′ c′ d′ e′ f′
-    → done 0 (held b′ u′ l′ k′ c′ d′ e′ f′) ≡ opening T sig
-unfolding opening openedWith
-open-done T sig b′ u′ l′ k′ c′ d′ e′ f′ k a e f n p q r =
-    let z : eqb (sigRefusal sig) 0 ≡ true = eq-eqb (sigRefusal sig) 0 (sym e ∙ ap checkedNumber f) in
-    let y = freed-is (T .link) k′ n (r .links) in
-    rw (a, z, p, q, y, r .labels, r .c0, r .c1, r .c2, r .c3)
+  pub open-done : (b′ u′ l′ k′ c′ d′ e′ f′ : List ℕ) (k : Checked) → ample T ≡ true → checkedNumber k ≡ sigRefusal sig → k ≡ Checked.Good → linkLength ≤ length (T .link)
+      → b′ ≡ signed (T .bytes) sig → u′ ≡ blank 8 (T .used) → l′ ≡ blank keyLimit (T .label) → Freed (T .link) k′
+      → c′ ≡ blank setLength (T .s0) → d′ ≡ blank setLength (T .s1) → e′ ≡ blank setLength (T .s2) → f′ ≡ blank setLength (T .s3)
+      → outcome (Reply.Done 0 0) (held b′ u′ l′ k′ c′ d′ e′ f′) [] ≡ told [] (opening T sig)
+  unfolding opening openedWith
+  open-done b′ u′ l′ k′ c′ d′ e′ f′ k a e f n p q l r x y z w =
+      let links = freed-is (T .link) k′ n r in
+      answers T (openedWith T sig) [] _ 0 0 [] (held b′ u′ l′ k′ c′ d′ e′ f′) [] a (rw (fine (sigRefusal sig) k e f)) (rw (p, q, l, links, x, y, z, w)) refl
 
 -- INSERT
-pub insert-short : (T : Tables) (t : List ℕ) → ample T ≡ false → refusedBy 1 T ≡ inserting T t
+pub insert-short : (T : Tables) (t : List ℕ) → ample T ≡ false → outcome (Reply.Refused Refusal.Table) T [] ≡ told [] (inserting T t)
 unfolding inserting
-insert-short T t a = rw a
+insert-short T t a = too-short T (insertedAt T t (freeSlot (T .used))) [] _ a
 
-pub insert-bad : (T : Tables) (sig t : List ℕ) (k : Checked) (w : Refusal) → ample T ≡ true → sig ≡ signatureOf (T .bytes) → checkedNumber k ≡ refusal sig t → k ≡ Checked.Refused w
-    → refusedBy (numberOf w) T ≡ inserting T t
-unfolding inserting
-insert-bad T sig t k w a s e f =
-    let e′ : checkedNumber k ≡ refusal (signatureOf (T .bytes)) t = rw s at e in
-    let z = refused-not (refusal (signatureOf (T .bytes)) t) k w e′ f in
-    rw (a, z .1, z .0)
+module _ (T : Tables) (sig t : List ℕ) (k : Checked) (a : ample T ≡ true) (g : sig ≡ signatureOf (T .bytes)) (e : checkedNumber k ≡ refusal sig t) where
+  number : checkedNumber k ≡ refusal (signatureOf (T .bytes)) t
+  number = rw g at e
 
-good-term : (sig t b : List ℕ) (k : Checked) → sig ≡ signatureOf b → checkedNumber k ≡ refusal sig t → k ≡ Checked.Good → eqb (refusal (signatureOf b) t) 0 ≡ true
-good-term sig t b k s e f = let e′ : checkedNumber k ≡ refusal (signatureOf b) t = rw s at e in eq-eqb (refusal (signatureOf b) t) 0 (sym e′ ∙ ap checkedNumber f)
+  out-by : (w : Refusal) → insertAnswer T t ≡ refuse w → outcome (Reply.Refused w) T [] ≡ told [] (inserting T t)
+  unfolding inserting
+  out-by w x = refuses T (insertedAt T t (freeSlot (T .used))) [] _ w a x
 
-pub insert-full : (T : Tables) (sig t : List ℕ) (k : Checked) (s : ℕ) → ample T ≡ true → sig ≡ signatureOf (T .bytes) → checkedNumber k ≡ refusal sig t → k ≡ Checked.Good
-    → s ≡ freeSlot (T .used) → 512 ≤ s → refusedBy 11 T ≡ inserting T t
-unfolding inserting
-insert-full T sig t k s a g e f h l =
-    let z = good-term sig t (T .bytes) k g e f in
-    let y : ltb (freeSlot (T .used)) 512 ≡ false = le-ltb (freeSlot (T .used)) 512 (rw h at l) in
-    rw (a, z, y)
+  pub insert-bad : (w : Refusal) → k ≡ Checked.Refused w → outcome (Reply.Refused w) T [] ≡ told [] (inserting T t)
+  unfolding insertAnswer
+  insert-bad w f = out-by w (bad (refusal (signatureOf (T .bytes)) t) k number w _ f)
 
-room-is : (T : Tables) (sig t us es : List ℕ) (n : ℕ) (r x : Bool) → sig ≡ signatureOf (T .bytes) → Outlined sig t n us es → r ≡ roomFor (T .link) (T .label) (take n us) (take n es) → r ≡ x
-    → roomFor (T .link) (T .label) (upsOf (signatureOf (T .bytes)) t) (endsOf (signatureOf (T .bytes)) t) ≡ x
-room-is T sig t us es n r x g o e f = rw (← g, ← (o .hang), ← (o .stand)) (sym e ∙ f)
+  module _ (f : k ≡ Checked.Good) (s : ℕ) (h : s ≡ freeSlot (T .used)) where
+    pub insert-full : slotCount ≤ s → outcome (Reply.Refused Refusal.Full) T [] ≡ told [] (inserting T t)
+    unfolding insertAnswer
+    insert-full l = out-by Refusal.Full (rw (fine (refusal (signatureOf (T .bytes)) t) k number f, le-ltb (freeSlot (T .used)) slotCount (rw h at l)))
 
-pub insert-crowded : (T : Tables) (sig t us es : List ℕ) (k : Checked) (s n : ℕ) (r : Bool) → ample T ≡ true → sig ≡ signatureOf (T .bytes) → checkedNumber k ≡ refusal sig t → k ≡ Checked.Good
-    → s ≡ freeSlot (T .used) → s < 512 → Outlined sig t n us es → r ≡ roomFor (T .link) (T .label) (take n us) (take n es) → r ≡ false → refusedBy 12 T ≡ inserting T t
-unfolding inserting
-insert-crowded T sig t us es k s n r a g e f h l o p q =
-    let z = good-term sig t (T .bytes) k g e f in
-    let y : ltb (freeSlot (T .used)) 512 ≡ true = lt-ltb (freeSlot (T .used)) 512 (rw h at l) in
-    let x = room-is T sig t us es n r false g o p q in
-    rw (a, z, y, x)
+    module _ (us es : List ℕ) (n : ℕ) (r : Bool) (l : s < slotCount) (o : Outlined sig t n us es) (p : r ≡ roomFor (T .link) (T .label) (take n us) (take n es)) where
+      -- all is good but the room for the keys
+      to-room : (x : Bool) → r ≡ x → insertAnswer T t ≡ pick x (slot s) (refuse Refusal.Keys)
+      unfolding insertAnswer
+      to-room x q =
+          let room : roomFor (T .link) (T .label) (upsOf (signatureOf (T .bytes)) t) (endsOf (signatureOf (T .bytes)) t) ≡ x = rw (← g, ← (o .hang), ← (o .stand)) (sym p ∙ q) in
+          rw (fine (refusal (signatureOf (T .bytes)) t) k number f, lt-ltb (freeSlot (T .used)) slotCount (rw h at l), room, ← h)
 
-inserted-is : (T : Tables) (sig t us es b′ u′ l′ k′ c′ d′ e′ f′ ws vs : List ℕ) (s n : ℕ) → sig ≡ signatureOf (T .bytes) → Outlined sig t n us es
-    → tables k′ l′ c′ d′ e′ f′ ≡ withKeys (tables (T .link) (T .label) (T .s0) (T .s1) (T .s2) (T .s3)) (take n us) (take n es) s → b′ ≡ withTerm (T .bytes) s t
-    → ws ≡ usedOf (T .used) → vs ≡ inserted ws s → u′ ≡ sets (T .used) 0 (usedOf vs) → held b′ u′ l′ k′ c′ d′ e′ f′ ≡ insertedAt T t s
-unfolding insertedAt
-inserted-is T sig t us es b′ u′ l′ k′ c′ d′ e′ f′ ws vs s n g o p q v w x =
-    let p′ : tables k′ l′ c′ d′ e′ f′ ≡ withKeys (indexOf T) (upsOf (signatureOf (T .bytes)) t) (endsOf (signatureOf (T .bytes)) t) s = rw (← g, ← (o .hang), ← (o .stand)) p in
-    rw (q, x, w, v) (ap (λ (σ : St Sets). renewed (withTerm (T .bytes) s t) (sets (T .used) 0 (usedOf (inserted (usedOf (T .used)) s))) σ) p′)
+      pub insert-crowded : r ≡ false → outcome (Reply.Refused Refusal.Keys) T [] ≡ told [] (inserting T t)
+      insert-crowded q = out-by Refusal.Keys (to-room false q)
 
-pub insert-done : (T : Tables) (sig t us es b′ u′ l′ k′ c′ d′ e′ f′ ws vs : List ℕ) (k : Checked) (s n : ℕ) (r : Bool) → ample T ≡ true → sig ≡ signatureOf (T .bytes) → checkedNumber k ≡ refusal sig t → k ≡ Checked.Good
-    → s ≡ freeSlot (T .used) → s < 512 → Outlined sig t n us es → r ≡ roomFor (T .link) (T .label) (take n us) (take n es) → r ≡ true
-    → tables k′ l′ c′ d′ e′ f′ ≡ withKeys (tables (T .link) (T .label) (T .s0) (T .s1) (T .s2) (T .s3)) (take n us) (take n es) s → b′ ≡ withTerm (T .bytes) s t
-    → ws ≡ usedOf (T .used) → vs ≡ inserted ws s → u′ ≡ sets (T .used) 0 (usedOf vs) → done s (held b′ u′ l′ k′ c′ d′ e′ f′) ≡ inserting T t
-unfolding inserting
-insert-done T sig t us es b′ u′ l′ k′ c′ d′ e′ f′ ws vs k s n r a g e f h l o p q v w x y z =
-    let zz = good-term sig t (T .bytes) k g e f in
-    let yy : ltb (freeSlot (T .used)) 512 ≡ true = lt-ltb (freeSlot (T .used)) 512 (rw h at l) in
-    let xx = room-is T sig t us es n r true g o p q in
-    let ww = inserted-is T sig t us es b′ u′ l′ k′ c′ d′ e′ f′ ws vs s n g o v w x y z in
-    rw (a, zz, yy, xx, ← h) (ap (λ (S : Tables). done s S) ww)
+      pub insert-done : (ks b′ u′ l′ k′ c′ d′ e′ f′ ws vs : List ℕ) → r ≡ true
+          → both (tables k′ l′ c′ d′ e′ f′) ks ≡ insFill (tables (T .link) (T .label) (T .s0) (T .s1) (T .s2) (T .s3)) (replicate 32 0) s 0 (take n us) (take n es)
+          → b′ ≡ withTerm (T .bytes) s t → ws ≡ usedOf (T .used) → vs ≡ inserted ws s → u′ ≡ sets (T .used) 0 (usedOf vs)
+          → outcome (Reply.Done s 0) (held b′ u′ l′ k′ c′ d′ e′ f′) [] ≡ told [] (inserting T t)
+      unfolding inserting insertedAt withKeys noNumbers
+      insert-done ks b′ u′ l′ k′ c′ d′ e′ f′ ws vs q i v w x y =
+          let keys = ap (λ (z : Both). z .st) i in
+          answers T (insertedAt T t (freeSlot (T .used))) [] _ s 0 [] (held b′ u′ l′ k′ c′ d′ e′ f′) [] a (to-room true q)
+          (rw (v, y, x, w, ← h, ← g, ← (o .hang), ← (o .stand)) (ap (λ (τ : St Sets). renewed (withTerm (T .bytes) s t) (sets (T .used) 0 (usedOf (inserted (usedOf (T .used)) s))) τ) keys)) refl
 
 -- DELETE
-pub delete-short : (T : Tables) (s : ℕ) → ample T ≡ false → refusedBy 1 T ≡ deleting T s
-unfolding deleting
-delete-short T s a = rw a
+pub used-is : (u ws : List ℕ) (s : ℕ) (r : Bool) → ws ≡ usedOf u → r ≡ eqb (has ws s) 1 → r ≡ isUsed u s
+unfolding isUsed
+used-is u ws s r e f = go (decLt s slotCount)
+  where
+    go : Dec (s < slotCount) → r ≡ pick (ltb s slotCount) (eqb (has (usedOf u) s) 1) false
+    go (yes h) = rw (lt-ltb s slotCount h, f, e)
+    go (no h) = let b : slotCount ≤ s = omega arith in rw (le-ltb s slotCount b, f, e, has-beyond (usedOf u) s (length-used u) b)
 
-pub delete-none : (T : Tables) (s : ℕ) (r : Bool) → ample T ≡ true → r ≡ isUsed (T .used) s → r ≡ false → refusedBy 4 T ≡ deleting T s
-unfolding deleting
-delete-none T s r a e f = let z = sym e ∙ f in rw (a, z)
+module _ (T : Tables) (s : ℕ) where
+  pub delete-short : ample T ≡ false → outcome (Reply.Refused Refusal.Table) T [] ≡ told [] (deleting T s)
+  unfolding deleting
+  delete-short a = too-short T (deletedAt T s) [] _ a
 
-pub delete-done : (T : Tables) (u′ l′ k′ c′ d′ e′ f′ ws vs : List ℕ) (s : ℕ) (r : Bool) → ample T ≡ true → r ≡ isUsed (T .used) s → r ≡ true
-    → tables k′ l′ c′ d′ e′ f′ ≡ withoutTerm (tables (T .link) (T .label) (T .s0) (T .s1) (T .s2) (T .s3)) (T .bytes) s
-    → ws ≡ usedOf (T .used) → vs ≡ removed ws s → u′ ≡ sets (T .used) 0 (usedOf vs) → done s (held (T .bytes) u′ l′ k′ c′ d′ e′ f′) ≡ deleting T s
-unfolding deleting deletedAt
-delete-done T u′ l′ k′ c′ d′ e′ f′ ws vs s r a e f p x y z =
-    let q = sym e ∙ f in
-    rw (a, q, z, y, x) (ap (λ (σ : St Sets). done s (renewed (T .bytes) (sets (T .used) 0 (usedOf (removed (usedOf (T .used)) s))) σ)) p)
+  module _ (ws : List ℕ) (r : Bool) (a : ample T ≡ true) (e : ws ≡ usedOf (T .used)) (f : r ≡ eqb (has ws s) 1) where
+    pub delete-none : r ≡ false → outcome (Reply.Refused Refusal.Slot) T [] ≡ told [] (deleting T s)
+    unfolding deleting
+    delete-none h = let z = sym (used-is (T .used) ws s r e f) ∙ h in refuses T (deletedAt T s) [] _ Refusal.Slot a (rw z)
+
+    pub delete-done : (u′ l′ k′ c′ d′ e′ f′ vs ks : List ℕ) (n : ℕ) → r ≡ true → KeysIn (T .bytes) (T .link) (T .label) s n ks
+        → tables k′ l′ c′ d′ e′ f′ ≡ delFill (tables (T .link) (T .label) (T .s0) (T .s1) (T .s2) (T .s3)) ks s n
+        → vs ≡ removed ws s → u′ ≡ sets (T .used) 0 (usedOf vs) → outcome (Reply.Done s 0) (held (T .bytes) u′ l′ k′ c′ d′ e′ f′) [] ≡ told [] (deleting T s)
+    unfolding deleting deletedAt
+    delete-done u′ l′ k′ c′ d′ e′ f′ vs ks n h K p x y =
+        let z = sym (used-is (T .used) ws s r e f) ∙ h in
+        let keys = p ∙ K .drops (indexOf T) refl refl in
+        answers T (deletedAt T s) [] _ s 0 [] (held (T .bytes) u′ l′ k′ c′ d′ e′ f′) [] a (rw z)
+        (rw (y, x, e) (ap (λ (τ : St Sets). renewed (T .bytes) (sets (T .used) 0 (usedOf (removed (usedOf (T .used)) s))) τ) keys)) refl
 
 -- THE KEY QUESTION
-pub ask-short : (T : Tables) (k out : List ℕ) → ample T ≡ false → listing 1 0 out ≡ asking T k out
+pub ask-short : (T : Tables) (k out : List ℕ) → ample T ≡ false → outcome (Reply.Refused Refusal.Table) T out ≡ told out (asking T k (length out))
 unfolding asking
-ask-short T k out a = rw a
+ask-short T k out a = too-short T T out _ a
 
-pub ask-bad : (T : Tables) (sig k out : List ℕ) (r : Bool) → ample T ≡ true → sig ≡ signatureOf (T .bytes) → r ≡ isKey sig k → r ≡ false → listing 9 0 out ≡ asking T k out
-unfolding asking
-ask-bad T sig k out r a g e f = let z : isKey (signatureOf (T .bytes)) k ≡ false = rw g at (sym e ∙ f) in rw (a, z)
+module _ (T : Tables) (sig k out : List ℕ) (r : Bool) (a : ample T ≡ true) (g : sig ≡ signatureOf (T .bytes)) (e : r ≡ isKey sig k) where
+  key-is : (b : Bool) → r ≡ b → isKey (signatureOf (T .bytes)) k ≡ b
+  key-is b f = rw g at (sym e ∙ f)
 
-slots-are : (T : Tables) (k ws vs : List ℕ) (m : ℕ) → m ≡ keyNumber (T .link) (T .label) k → ws ≡ usedOf (T .used) → vs ≡ met (four (T .s0) (T .s1) (T .s2) (T .s3)) m ws → vs ≡ slotsWith T k
-unfolding slotsWith
-slots-are T k ws vs m e f g = rw (g, f, e)
+  pub ask-bad : r ≡ false → outcome (Reply.Refused Refusal.Key) T out ≡ told out (asking T k (length out))
+  unfolding asking
+  ask-bad f = refuses T T out _ Refusal.Key a (rw (key-is false f))
 
-pub ask-room : (T : Tables) (sig k out out′ ws vs : List ℕ) (m n : ℕ) (r : Bool) → ample T ≡ true → sig ≡ signatureOf (T .bytes) → r ≡ isKey sig k → r ≡ true
-    → m ≡ keyNumber (T .link) (T .label) k → ws ≡ usedOf (T .used) → vs ≡ met (four (T .s0) (T .s1) (T .s2) (T .s3)) m ws → n ≡ length (members vs) → length out < 2 * n
-    → out′ ≡ listedInto vs out → listing 15 0 out′ ≡ asking T k out
-unfolding asking
-ask-room T sig k out out′ ws vs m n r a g e f x y w h l o =
-    let z : isKey (signatureOf (T .bytes)) k ≡ true = rw g at (sym e ∙ f) in
-    let v = slots-are T k ws vs m x y w in
-    let u : ltb (length out) (2 * length (members (slotsWith T k))) ≡ true = lt-ltb (length out) (2 * length (members (slotsWith T k))) (rw (h, v) at l) in
-    rw (a, z, u, o, into-none vs out (rw h at l))
+  module _ (ws vs out′ : List ℕ) (m n : ℕ) (f : r ≡ true) (x : m ≡ keyNumber (T .link) (T .label) k) (y : ws ≡ usedOf (T .used)) (w : vs ≡ met (four (T .s0) (T .s1) (T .s2) (T .s3)) m ws)
+      (h : n ≡ length (members vs)) (o : out′ ≡ listedInto vs out) where
+    slots-are : vs ≡ slotsWith T k
+    unfolding slotsWith
+    slots-are = rw (w, y, x)
 
-pub ask-done : (T : Tables) (sig k out out′ ws vs : List ℕ) (m n : ℕ) (r : Bool) → ample T ≡ true → sig ≡ signatureOf (T .bytes) → r ≡ isKey sig k → r ≡ true
-    → m ≡ keyNumber (T .link) (T .label) k → ws ≡ usedOf (T .used) → vs ≡ met (four (T .s0) (T .s1) (T .s2) (T .s3)) m ws → n ≡ length (members vs) → 2 * n ≤ length out
-    → out′ ≡ listedInto vs out → listing 0 n out′ ≡ asking T k out
-unfolding asking
-ask-done T sig k out out′ ws vs m n r a g e f x y w h l o =
-    let z : isKey (signatureOf (T .bytes)) k ≡ true = rw g at (sym e ∙ f) in
-    let v = slots-are T k ws vs m x y w in
-    let u : ltb (length out) (2 * length (members (slotsWith T k))) ≡ false = le-ltb (length out) (2 * length (members (slotsWith T k))) (rw (h, v) at l) in
-    rw (a, z, u, o, into-all vs out (rw h at l), h, v)
+    pub ask-room : length out < 2 * n → outcome (Reply.Refused Refusal.Room) T out′ ≡ told out (asking T k (length out))
+    unfolding asking
+    ask-room l =
+        let z = lt-ltb (length out) (2 * length (members vs)) (rw h at l) in
+        rw (o, into-none vs out (rw h at l)) (refuses T T out _ Refusal.Room a (rw (key-is true f, ← slots-are, z)))
+
+    pub ask-done : 2 * n ≤ length out → outcome (Reply.Done n 0) T out′ ≡ told out (asking T k (length out))
+    unfolding asking
+    ask-done l =
+        let z = le-ltb (length out) (2 * length (members vs)) (rw h at l) in
+        answers T T out _ n 0 (listed (members vs)) T out′ a (rw (key-is true f, ← slots-are, z, h)) refl (o ∙ into-all vs out (rw h at l))

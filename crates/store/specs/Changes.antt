@@ -1,4 +1,5 @@
--- Document 01, 'Store': insert and delete of the tables are insert and delete of the store, in the smallest free slot; refusal 12.
+-- SCOPE.md, 'Store': insert and delete of the tables are insert and delete of the store, in the smallest free slot;
+-- refusal 12.
 use Prim.Native.Nat.{ℕ, zero, suc, _+_, _-_, _*_, _≤_, _<_}
 use mathlib.Core.Path.{_≡_, refl, sym, ap, _∙_, subst}
 use mathlib.Core.Logic.{inl, inr, _↔_}
@@ -14,25 +15,26 @@ use lib.Seq.{sets, length-sets, take-all}
 use Rattle.laws.specs.Choice.{pick}
 use Rattle.slots.specs.Slots.{has, inserted, removed, others, Next}
 use Rattle.terms.specs.Terms.{numbers, Signed, refusal}
-use Rattle.terms.proofs.Laws.{good}
+use Rattle.terms.proofs.TermLaws.{good}
 use Rattle.keys.specs.Keys.{Tm, Args, node, nil, cons, Place, Key, key, endOf, size, sizes}
 use Rattle.definitions.specs.Trees.{itemsT, treeOf}
 use Rattle.definitions.specs.Spelt.{size-items}
-use Rattle.bank.specs.Bank.{mem}
+use Rattle.keysets.specs.KeySets.{mem}
 use Rattle.paths.specs.Free.{frees, room}
-use Rattle.paths.specs.Walk.{upsT, upsA, endsT, keyList}
+use Rattle.paths.specs.TreeWalk.{upsT, upsA, endsT, keyList}
 use Rattle.paths.specs.Insert.{RK, With}
 use Rattle.paths.specs.Locate.{numList, missing, located as locatedKeys, lack-of}
-use Rattle.paths.specs.Store.{Stored, KeyIn, put, Fine, fine-back, fine-nodup, fine-in}
-use Rattle.paths.specs.Spelt.{spelt}
+use Rattle.paths.specs.StoredTrees.{Stored, KeyIn, put, Fine, fine-back, fine-nodup, fine-in}
+use Rattle.paths.specs.SpeltKeys.{spelt}
 use Rattle.paths.specs.Count.{Distinct, keys-then, keys-refused}
-use Rattle.walks.specs.Means.{GoodSt, insert-means, delete-means, fill-nums}
+use Rattle.termkeys.specs.TermKeysMean.{GoodSt, insert-means, delete-means, fill-nums}
 use Rattle.layout.specs.Layout.{termOf, usedOf, isUsed, withTerm}
-use Rattle.layout.proofs.Laws.{signature-good, length-with-term}
+use Rattle.layout.proofs.LayoutLaws.{signature-good, length-with-term}
 use Rattle.layout.specs.Tables.{Tables}
 use Rattle.store.specs.Tables.{indexOf, upsOf, endsOf, noNumbers, located, roomFor, withKeys, withoutKeys, withoutTerm, leastFrom, freeSlot, insertedAt, deletedAt}
 use Rattle.store.specs.Kept.{with-signature, with-term-same, with-term-other, insert-same, insert-other, insert-words, remove-same, remove-other, remove-words, has-others}
-use Rattle.store.specs.Means.{Slots, changed, changed-same, changed-other, filled, treeIn, trees, trees-changed, good-same, Holds}
+use Rattle.store.specs.TablesHold.{Slots, changed, changed-same, changed-other, filled, treeIn, trees, trees-changed, good-same, Holds}
+use Rattle.laws.specs.Sizes.{keyLimit, slotCount}
 
 -- the outline of a checked term is that of its tree
 mutual
@@ -73,15 +75,15 @@ drawn sig t g h =
 
 -- the smallest slot that holds nothing, or 512
 pub record Smallest (st : Slots) (s : ℕ) : Type 0 where
-  pub most : s ≤ 512
-  pub free : s < 512 → st s ≡ none
+  pub most : s ≤ slotCount
+  pub free : s < slotCount → st s ≡ none
   pub before : (x : ℕ) → x < s → st x ≡ none → ⊥
 
 digit : (ws : List ℕ) (x : ℕ) → (has ws x ≡ 1 → ⊥) → has ws x ≡ 0
 unfolding has
 digit ws x q = omega arith
 
-least-next : (k : ℕ) (ws : List ℕ) (from : ℕ) → from + k ≡ 512 → Next ws from (leastFrom ws from k)
+least-next : (k : ℕ) (ws : List ℕ) (from : ℕ) → from + k ≡ slotCount → Next ws from (leastFrom ws from k)
 unfolding leastFrom
 least-next zero ws from e = record { above = λ h. omega arith; most = omega arith; member = λ h. absurd (omega arith); passed = λ x a b. absurd (omega arith) }
 least-next (suc k) ws from e = go (ℕ-discrete (has ws from) 1) (least-next k ws (suc from) (omega arith))
@@ -108,15 +110,15 @@ unfolding freeSlot
 smallest T sig st h = record {
   most = n .most;
   free = λ l. empty-slot (st r) (let a = n .member l in let b = has-others (T .used) r (h .words) l in let c = h .slots r l in omega (arith, a, b, c));
-  before = λ x l e. let m = n .most in let q : x < 512 = omega arith in
+  before = λ x l e. let m = n .most in let q : x < slotCount = omega arith in
       let a = n .passed x (omega arith) l in let b = has-others (T .used) x (h .words) q in let c = h .slots x q ∙ ap filled e in omega (arith, a, b, c);
 }
   where
     r : ℕ
-    r = leastFrom (others (usedOf (T .used))) 0 512
+    r = leastFrom (others (usedOf (T .used))) 0 slotCount
 
     n : Next (others (usedOf (T .used))) 0 r
-    n = least-next 512 (others (usedOf (T .used))) 0 refl
+    n = least-next slotCount (others (usedOf (T .used))) 0 refl
 
 -- the missing keys of a term, counted
 room-count : (link label : List ℕ) (sig t : List ℕ) → Drawn sig t
@@ -135,7 +137,7 @@ unfolding roomFor
 room-frees T sig st t h d = rw (room-count (T .link) (T .label) sig t d) (room (T .link) (T .label) _ (h .index .rep .chains))
 
 -- INSERT
-insert-index : (T : Tables) (sig : List ℕ) (st : Slots) (t : List ℕ) (s : ℕ) → Holds T sig st → Drawn sig t → s < 512 → st s ≡ none → roomFor (T .link) (T .label) (upsOf sig t) (endsOf sig t) ≡ true
+insert-index : (T : Tables) (sig : List ℕ) (st : Slots) (t : List ℕ) (s : ℕ) → Holds T sig st → Drawn sig t → s < slotCount → st s ≡ none → roomFor (T .link) (T .label) (upsOf sig t) (endsOf sig t) ≡ true
     → GoodSt (withKeys (indexOf T) (upsOf sig t) (endsOf sig t) s) (trees sig (changed st s (some t)))
 unfolding withKeys noNumbers
 insert-index T sig st t s h d l e r =
@@ -144,7 +146,7 @@ insert-index T sig st t s h d l e r =
     let g = insert-means (indexOf T) (trees sig st) s u noNumbers (h .index) l (ap (treeIn sig) e) (d .fine) (let w = d .few in omega arith) (d .same) m in
     rw (d .ups, d .ends) (good-same _ _ _ (trees-changed sig st s (some t)) g)
 
-pub insert-holds : (T : Tables) (sig : List ℕ) (st : Slots) (t : List ℕ) (s : ℕ) → Holds T sig st → refusal sig t ≡ 0 → s < 512 → st s ≡ none → roomFor (T .link) (T .label) (upsOf sig t) (endsOf sig t) ≡ true
+pub insert-holds : (T : Tables) (sig : List ℕ) (st : Slots) (t : List ℕ) (s : ℕ) → Holds T sig st → refusal sig t ≡ 0 → s < slotCount → st s ≡ none → roomFor (T .link) (T .label) (upsOf sig t) (endsOf sig t) ≡ true
     → Holds (insertedAt T t s) sig (changed st s (some t))
 unfolding insertedAt
 insert-holds T sig st t s h r l e m =
@@ -163,7 +165,7 @@ insert-holds T sig st t s h r l e m =
       index = rw (h .signature) (insert-index T sig st t s h (drawn sig t S r) l e m);
     }
   where
-    slot : (x : ℕ) → x < 512 → Dec (x ≡ s) → has (usedOf (sets (T .used) 0 (usedOf (inserted (usedOf (T .used)) s)))) x ≡ filled (changed st s (some t) x)
+    slot : (x : ℕ) → x < slotCount → Dec (x ≡ s) → has (usedOf (sets (T .used) 0 (usedOf (inserted (usedOf (T .used)) s)))) x ≡ filled (changed st s (some t) x)
     slot x g (yes z) = rw (changed-same st s (some t) x z, z) (insert-same (T .used) s (h .used) l (h .words))
     slot x g (no z) = rw (changed-other st s (some t) x z) (insert-other (T .used) s (h .used) l (h .words) x g z ∙ h .slots x g)
 
@@ -174,14 +176,14 @@ insert-holds T sig st t s h r l e m =
     term x v g (no z) =
         let y : st x ≡ some v = sym (changed-other st s (some t) x z) ∙ g in
         let q = h .terms x v y in
-        (with-term-other (T .bytes) s t (h .bytes) l (good sig t r .short) x (low x v y (decLt x 512)) z ∙ q .0, q .1)
+        (with-term-other (T .bytes) s t (h .bytes) l (good sig t r .short) x (low x v y (decLt x slotCount)) z ∙ q .0, q .1)
       where
-        low : (x : ℕ) (v : List ℕ) → st x ≡ some v → Dec (x < 512) → x < 512
+        low : (x : ℕ) (v : List ℕ) → st x ≡ some v → Dec (x < slotCount) → x < slotCount
         low x v y (yes p) = p
         low x v y (no p) = absurd (let a = h .beyond x (omega arith) in let z : _≡_ {A = ℕ} 0 1 = cc in omega arith)
 
 -- DELETE
-delete-index : (T : Tables) (sig : List ℕ) (st : Slots) (t : List ℕ) (s : ℕ) → Holds T sig st → Drawn sig t → s < 512 → st s ≡ some t
+delete-index : (T : Tables) (sig : List ℕ) (st : Slots) (t : List ℕ) (s : ℕ) → Holds T sig st → Drawn sig t → s < slotCount → st s ≡ some t
     → GoodSt (withoutKeys (indexOf T) (upsOf sig t) (endsOf sig t) s) (trees sig (changed st s none))
 unfolding withoutKeys located noNumbers
 delete-index T sig st t s h d l e =
@@ -189,7 +191,7 @@ delete-index T sig st t s h d l e =
     let g = delete-means (indexOf T) (trees sig st) s u noNumbers (h .index) l (ap (treeIn sig) e) (d .fine) (let w = d .few in omega arith) (d .same) in
     rw (d .ups, d .ends) (good-same _ _ _ (trees-changed sig st s none) g)
 
-pub delete-holds : (T : Tables) (sig : List ℕ) (st : Slots) (t : List ℕ) (s : ℕ) → Holds T sig st → s < 512 → st s ≡ some t → Holds (deletedAt T s) sig (changed st s none)
+pub delete-holds : (T : Tables) (sig : List ℕ) (st : Slots) (t : List ℕ) (s : ℕ) → Holds T sig st → s < slotCount → st s ≡ some t → Holds (deletedAt T s) sig (changed st s none)
 unfolding deletedAt withoutTerm
 delete-holds T sig st t s h l e =
     let u = T .used in
@@ -206,7 +208,7 @@ delete-holds T sig st t s h l e =
       index = rw (h .signature, q .0, eq-eqb (refusal sig t) 0 (q .1)) (delete-index T sig st t s h (drawn sig t S (q .1)) l e);
     }
   where
-    slot : (x : ℕ) → x < 512 → Dec (x ≡ s) → has (usedOf (sets (T .used) 0 (usedOf (removed (usedOf (T .used)) s)))) x ≡ filled (changed st s none x)
+    slot : (x : ℕ) → x < slotCount → Dec (x ≡ s) → has (usedOf (sets (T .used) 0 (usedOf (removed (usedOf (T .used)) s)))) x ≡ filled (changed st s none x)
     slot x g (yes z) = rw (changed-same st s none x z, z) (remove-same (T .used) s (h .used) l (h .words))
     slot x g (no z) = rw (changed-other st s none x z) (remove-other (T .used) s (h .used) l (h .words) x g z ∙ h .slots x g)
 
@@ -217,11 +219,11 @@ delete-holds T sig st t s h l e =
 -- a slot is in use exactly where the store holds something there
 pub use-means : (T : Tables) (sig : List ℕ) (st : Slots) (s : ℕ) → Holds T sig st → isUsed (T .used) s ≡ eqb (filled (st s)) 1
 unfolding isUsed
-use-means T sig st s h = go (decLt s 512)
+use-means T sig st s h = go (decLt s slotCount)
   where
-    go : Dec (s < 512) → pick (ltb s 512) (eqb (has (usedOf (T .used)) s) 1) false ≡ eqb (filled (st s)) 1
-    go (yes l) = rw (lt-ltb s 512 l, h .slots s l)
-    go (no l) = rw (le-ltb s 512 (omega arith), h .beyond s (omega arith))
+    go : Dec (s < slotCount) → pick (ltb s slotCount) (eqb (has (usedOf (T .used)) s) 1) false ≡ eqb (filled (st s)) 1
+    go (yes l) = rw (lt-ltb s slotCount l, h .slots s l)
+    go (no l) = rw (le-ltb s slotCount (omega arith), h .beyond s (omega arith))
 
 -- REFUSAL 12: a term goes in exactly where the store with it would have at most 4,096 distinct keys
 with-stored : (st : ℕ → Option Tm) (s : ℕ) (t : Tm) → st s ≡ none → Fine t → (u : ℕ) (P : Place) (x : ℕ) → Stored (put st s (some t)) u P x ↔ With (Stored st) s (keyList [] (upsT 0 0 t) (endsT t)) u P x
@@ -258,26 +260,10 @@ distinct-iff R Q n e d = record {
 abbrev pub KeysOf : List ℕ → Slots → ℕ → Place → ℕ → Type 0
 KeysOf sig st = Stored (trees sig st)
 
--- the distinct keys of the store with the term
-pub keys-after : (T : Tables) (sig : List ℕ) (st : Slots) (t : List ℕ) (s : ℕ) → Holds T sig st → refusal sig t ≡ 0 → st s ≡ none → (N : ℕ) × Distinct (KeysOf sig (changed st s (some t))) N
-keys-after T sig st t s h r e =
-    let u = treeOf sig t in
-    let w = drawn sig t (subst Signed (h .signature) (signature-good (T .bytes))) r in
-    let d = keys-then (T .link) (T .label) (mem (indexOf T .sets)) (Stored (trees sig st)) (h .index .rep) (h .index .full) s (keyList [] (upsT 0 0 u) (endsT u)) (missing (numList (T .link) (T .label) [] (upsT 0 0 u) (endsT u))) (fine-nodup u (w .fine))
-    (lack-of (T .label) (numList (T .link) (T .label) [] (upsT 0 0 u) (endsT u)) (keyList [] (upsT 0 0 u) (endsT u)) (locatedKeys (T .link) (T .label) (mem (indexOf T .sets)) (Stored (trees sig st)) (h .index .rep) (upsT 0 0 u) (endsT u) [] [] tt (fine-back u (w .fine)) (w .fine .ends))) in
-    (_, distinct-iff _ _ _ (λ a P x. seen-back a P x (with-stored (trees sig st) s u (ap (treeIn sig) e) (w .fine) a P x)) d)
-  where
-    seen-back : (a : ℕ) (P : Place) (x : ℕ) → Stored (put (trees sig st) s (some (treeOf sig t))) a P x ↔ With (Stored (trees sig st)) s (keyList [] (upsT 0 0 (treeOf sig t)) (endsT (treeOf sig t))) a P x
-        → With (Stored (trees sig st)) s (keyList [] (upsT 0 0 (treeOf sig t)) (endsT (treeOf sig t))) a P x ↔ KeysOf sig (changed st s (some t)) a P x
-    seen-back a P x i = (
-      (λ q. subst (λ (o : Option Tm). KeyIn o P x) (trees-changed sig st s (some t) a) (i .1 q)),
-      (λ (q : KeyIn (trees sig (changed st s (some t)) a) P x). i .0 (subst (λ (o : Option Tm). KeyIn o P x) (sym (trees-changed sig st s (some t) a)) q)),
-    )
-
 pub room-means : (T : Tables) (sig : List ℕ) (st : Slots) (t : List ℕ) (s N : ℕ) → Holds T sig st → refusal sig t ≡ 0 → st s ≡ none → Distinct (KeysOf sig (changed st s (some t))) N
-    → (roomFor (T .link) (T .label) (upsOf sig t) (endsOf sig t) ≡ true) ↔ (N ≤ 4096)
+    → (roomFor (T .link) (T .label) (upsOf sig t) (endsOf sig t) ≡ true) ↔ (N ≤ keyLimit)
 room-means T sig st t s N h r e d =
-    ((λ q. let m = f .0 q in fits (decLt 4096 N) m), (λ q. f .1 (enough (decLt (frees (T .label)) M) q)))
+    ((λ q. let m = f .0 q in fits (decLt keyLimit N) m), (λ q. f .1 (enough (decLt (frees (T .label)) M) q)))
   where
     S : Signed sig
     S = subst Signed (h .signature) (signature-good (T .bytes))
@@ -303,14 +289,14 @@ room-means T sig st t s N h r e d =
     d′ : Distinct (With (Stored (trees sig st)) s (keyList [] (upsT 0 0 u) (endsT u))) N
     d′ = distinct-iff _ _ N (with-stored (trees sig st) s u (ap (treeIn sig) e) (w .fine)) (distinct-iff _ _ N seen d)
 
-    k : (frees (T .label) < M) ↔ (4096 < N)
+    k : (frees (T .label) < M) ↔ (keyLimit < N)
     k = keys-refused (T .link) (T .label) (mem (indexOf T .sets)) (Stored (trees sig st)) (h .index .rep) (h .index .full) s (keyList [] (upsT 0 0 u) (endsT u)) M N (fine-nodup u (w .fine))
         (lack-of (T .label) _ _ (locatedKeys (T .link) (T .label) (mem (indexOf T .sets)) (Stored (trees sig st)) (h .index .rep) (upsT 0 0 u) (endsT u) [] [] tt (fine-back u (w .fine)) (w .fine .ends))) d′
 
-    fits : Dec (4096 < N) → M ≤ frees (T .label) → N ≤ 4096
+    fits : Dec (keyLimit < N) → M ≤ frees (T .label) → N ≤ keyLimit
     fits (yes p) m = absurd (let z = k .1 p in omega (arith, z))
     fits (no p) m = omega arith
 
-    enough : Dec (frees (T .label) < M) → N ≤ 4096 → M ≤ frees (T .label)
+    enough : Dec (frees (T .label) < M) → N ≤ keyLimit → M ≤ frees (T .label)
     enough (yes p) q = absurd (let z = k .0 p in omega (arith, z))
     enough (no p) q = omega arith

@@ -1,4 +1,4 @@
--- Serves document 01, 'Store': what the writes of the store leave of the signature, the terms and the slots in use.
+-- Serves SCOPE.md, 'Store': what the writes of the store leave of the signature, the terms and the slots in use.
 use Prim.Native.Nat.{ℕ, zero, suc, _+_, _-_, _*_, _/_, _%_, _^_, _≤_, _<_, min}
 use mathlib.Core.Path.{_≡_, refl, sym, _∙_}
 use mathlib.Core.List.{List, [], _∷_}
@@ -13,12 +13,14 @@ use lib.ListN.{length, getD, set, take, drop, replicate, length-take, length-dro
 use lib.Pow.{pow-lt}
 use lib.Seq.{sets, length-sets, ext-getD, getD-take, getD-drop, getD-set-same, getD-set-other}
 use Rattle.laws.specs.Digits.{bit}
-use Rattle.slots.specs.Sets.{Words, has-removed-same, has-removed-other}
+use Rattle.slots.specs.Sets.{Words, has-insert-same, has-insert-other, has-removed-same, has-removed-other}
+use Rattle.slots.specs.Sets as Sets
 use Rattle.slots.specs.Slots.{has, inserted, removed, words8, others}
-use Rattle.slots.proofs.Laws.{getD-words8, has-insert-same, has-insert-other, bit-not}
+use Rattle.slots.proofs.SlotLaws.{getD-words8}
 use Rattle.terms.specs.Terms.{Signed}
 use Rattle.layout.specs.Layout.{setsLong, longEnough, largestOf, signatureOf, termOf, usedOf, blank, signed, withTerm}
-use Rattle.layout.proofs.Laws.{length-blank}
+use Rattle.layout.proofs.LayoutLaws.{length-blank}
+use Rattle.laws.specs.Sizes.{bytesLength, keyLimit, lengthsStart, linkLength, setLength, slotCount, termsStart}
 
 -- one element after elements were written
 pub sets-before : (vs l : List ℕ) (i j : ℕ) → j < i → getD (sets l i vs) j 0 ≡ getD l j 0
@@ -52,7 +54,7 @@ part-is b t m h f = ext-getD 0 (take (length t) (drop m b)) t (omega (arith, len
     (λ i g. let k : i < length t = omega (arith, length-take (length t) (drop m b)) in part-at b m (length t) i k ∙ f i k)
 
 -- the signature is read off the first 258 bytes
-pub signature-same : (b c : List ℕ) → length b ≡ length c → ((j : ℕ) → j < 258 → getD b j 0 ≡ getD c j 0) → signatureOf b ≡ signatureOf c
+pub signature-same : (b c : List ℕ) → length b ≡ length c → ((j : ℕ) → j < lengthsStart → getD b j 0 ≡ getD c j 0) → signatureOf b ≡ signatureOf c
 unfolding signatureOf
 signature-same b c e f = go (ltb 256 n) refl
   where
@@ -71,22 +73,22 @@ unfolding largestOf
 largest-bound [] h = omega arith
 largest-bound (a ∷ s) h = let r = largest-bound s (λ x. h (suc x)) in let z = h 0 in omega arith
 
-pub signed-signature : (b sig : List ℕ) → 33538 ≤ length b → Signed sig → signatureOf (signed b sig) ≡ sig
+pub signed-signature : (b sig : List ℕ) → bytesLength ≤ length b → Signed sig → signatureOf (signed b sig) ≡ sig
 unfolding signed signatureOf
 signed-signature b sig h g =
     rw (n, p, le-ltb 256 (length sig) (g .short), le-ltb 8 (largestOf sig) (largest-bound sig (g .eight)))
   where
     B : List ℕ
-    B = blank 33538 b
+    B = blank bytesLength b
 
     C : List ℕ
     C = set (set B 0 (length sig / 256)) 1 (length sig % 256)
 
     long : length C ≡ length b
-    long = length-set (set B 0 (length sig / 256)) 1 (length sig % 256) ∙ length-set B 0 (length sig / 256) ∙ length-blank 33538 b h
+    long = length-set (set B 0 (length sig / 256)) 1 (length sig % 256) ∙ length-set B 0 (length sig / 256) ∙ length-blank bytesLength b h
 
     long0 : length B ≡ length b
-    long0 = length-blank 33538 b h
+    long0 = length-blank bytesLength b h
 
     first : getD (sets C 2 sig) 0 0 ≡ length sig / 256
     first = sets-before sig C 2 0 (omega arith) ∙ getD-set-other (set B 0 (length sig / 256)) 1 0 (length sig % 256) 0 (λ z. omega arith) ∙ getD-set-same B 0 (length sig / 256) 0 (omega (arith, long0))
@@ -101,55 +103,55 @@ signed-signature b sig h g =
     p = let s = g .short in part-is (sets C 2 sig) sig 2 (omega (arith, length-sets C 2 sig, long)) (λ i k. sets-inside sig C 2 i k (omega (arith, long)))
 
 -- a term in its slot, and the other slots
-module _ (b : List ℕ) (s : ℕ) (t : List ℕ) (l : 33538 ≤ length b) (h : s < 512) (k : length t ≤ 64) where
+module _ (b : List ℕ) (s : ℕ) (t : List ℕ) (l : bytesLength ≤ length b) (h : s < slotCount) (k : length t ≤ 64) where
   abbrev C : List ℕ
-  C = set b (258 + s) (length t)
+  C = set b (lengthsStart + s) (length t)
 
   with-length : length (withTerm b s t) ≡ length b
   unfolding withTerm
-  with-length = length-sets C (770 + 64 * s) t ∙ length-set b (258 + s) (length t)
+  with-length = length-sets C (termsStart + 64 * s) t ∙ length-set b (lengthsStart + s) (length t)
 
   pub with-signature : signatureOf (withTerm b s t) ≡ signatureOf b
   unfolding withTerm
   with-signature = signature-same (withTerm b s t) b with-length (λ j g. low j g)
     where
-      low : (j : ℕ) → j < 258 → getD (withTerm b s t) j 0 ≡ getD b j 0
-      low j g = sets-before t C (770 + 64 * s) j (omega arith) ∙ getD-set-other b (258 + s) j (length t) 0 (λ z. omega arith)
+      low : (j : ℕ) → j < lengthsStart → getD (withTerm b s t) j 0 ≡ getD b j 0
+      low j g = sets-before t C (termsStart + 64 * s) j (omega arith) ∙ getD-set-other b (lengthsStart + s) j (length t) 0 (λ z. omega arith)
 
   pub with-term-same : termOf (withTerm b s t) s ≡ t
   unfolding termOf withTerm
-  with-term-same = rw (size, mod-eq-of-lt (cap)) (part-is (sets C (770 + 64 * s) t) t (770 + 64 * s) (omega (arith, length-sets C (770 + 64 * s) t, length-set b (258 + s) (length t)))
-      (λ i g. sets-inside t C (770 + 64 * s) i g (omega (arith, length-set b (258 + s) (length t)))))
+  with-term-same = rw (size, mod-eq-of-lt (cap)) (part-is (sets C (termsStart + 64 * s) t) t (termsStart + 64 * s) (omega (arith, length-sets C (termsStart + 64 * s) t, length-set b (lengthsStart + s) (length t)))
+      (λ i g. sets-inside t C (termsStart + 64 * s) i g (omega (arith, length-set b (lengthsStart + s) (length t)))))
     where
       cap : length t < 65
       cap = omega arith
 
-      size : getD (sets C (770 + 64 * s) t) (258 + s) 0 ≡ length t
-      size = sets-before t C (770 + 64 * s) (258 + s) (omega arith) ∙ getD-set-same b (258 + s) (length t) 0 (omega arith)
+      size : getD (sets C (termsStart + 64 * s) t) (lengthsStart + s) 0 ≡ length t
+      size = sets-before t C (termsStart + 64 * s) (lengthsStart + s) (omega arith) ∙ getD-set-same b (lengthsStart + s) (length t) 0 (omega arith)
 
-  pub with-term-other : (x : ℕ) → x < 512 → (x ≡ s → ⊥) → termOf (withTerm b s t) x ≡ termOf b x
+  pub with-term-other : (x : ℕ) → x < slotCount → (x ≡ s → ⊥) → termOf (withTerm b s t) x ≡ termOf b x
   unfolding termOf withTerm
-  with-term-other x g n = rw (size, part-same (sets C (770 + 64 * s) t) b (770 + 64 * x) (getD b (258 + x) 0 % 65) (length-sets C (770 + 64 * s) t ∙ length-set b (258 + s) (length t)) same)
+  with-term-other x g n = rw (size, part-same (sets C (termsStart + 64 * s) t) b (termsStart + 64 * x) (getD b (lengthsStart + x) 0 % 65) (length-sets C (termsStart + 64 * s) t ∙ length-set b (lengthsStart + s) (length t)) same)
     where
-      size : getD (sets C (770 + 64 * s) t) (258 + x) 0 ≡ getD b (258 + x) 0
-      size = sets-before t C (770 + 64 * s) (258 + x) (omega arith) ∙ getD-set-other b (258 + s) (258 + x) (length t) 0 (λ z. n (omega arith))
+      size : getD (sets C (termsStart + 64 * s) t) (lengthsStart + x) 0 ≡ getD b (lengthsStart + x) 0
+      size = sets-before t C (termsStart + 64 * s) (lengthsStart + x) (omega arith) ∙ getD-set-other b (lengthsStart + s) (lengthsStart + x) (length t) 0 (λ z. n (omega arith))
 
-      old : (j : ℕ) → 770 ≤ j → getD C j 0 ≡ getD b j 0
-      old j q = getD-set-other b (258 + s) j (length t) 0 (λ z. omega arith)
+      old : (j : ℕ) → termsStart ≤ j → getD C j 0 ≡ getD b j 0
+      old j q = getD-set-other b (lengthsStart + s) j (length t) 0 (λ z. omega arith)
 
-      same : (j : ℕ) → 770 + 64 * x ≤ j → j < 770 + 64 * x + getD b (258 + x) 0 % 65 → getD (sets C (770 + 64 * s) t) j 0 ≡ getD b j 0
+      same : (j : ℕ) → termsStart + 64 * x ≤ j → j < termsStart + 64 * x + getD b (lengthsStart + x) 0 % 65 → getD (sets C (termsStart + 64 * s) t) j 0 ≡ getD b j 0
       same j p q = side (decLt x s)
         where
-          side : Dec (x < s) → getD (sets C (770 + 64 * s) t) j 0 ≡ getD b j 0
-          side (yes r) = sets-before t C (770 + 64 * s) j (omega arith) ∙ old j (omega arith)
-          side (no r) = sets-after t C (770 + 64 * s) j (omega arith) ∙ old j (omega arith)
+          side : Dec (x < s) → getD (sets C (termsStart + 64 * s) t) j 0 ≡ getD b j 0
+          side (yes r) = sets-before t C (termsStart + 64 * s) j (omega arith) ∙ old j (omega arith)
+          side (no r) = sets-after t C (termsStart + 64 * s) j (omega arith) ∙ old j (omega arith)
 
 -- the slots in use after a write of eight words
-pub has-used : (u : List ℕ) (x : ℕ) → x < 512 → has (usedOf u) x ≡ bit (getD u (x / 64) 0) (x % 64)
+pub has-used : (u : List ℕ) (x : ℕ) → x < slotCount → has (usedOf u) x ≡ bit (getD u (x / 64) 0) (x % 64)
 unfolding has usedOf
 has-used u x h = rw (getD-words8 (λ i. getD u i 0) (x / 64) (omega arith))
 
-length-used : (u : List ℕ) → length (usedOf u) ≡ 8
+pub length-used : (u : List ℕ) → length (usedOf u) ≡ 8
 unfolding usedOf words8
 length-used u = refl
 
@@ -159,7 +161,7 @@ used-word u vs i l h =
     let z : 0 + i ≡ i = omega arith in
     (rw z at (sets-inside (usedOf vs) u 0 i (omega (arith, length-used vs)) (omega (arith, length-used vs)))) ∙ getD-words8 (λ j. getD vs j 0) i h
 
-pub used-has : (u vs : List ℕ) (x : ℕ) → 8 ≤ length u → x < 512 → has (usedOf (sets u 0 (usedOf vs))) x ≡ has vs x
+pub used-has : (u vs : List ℕ) (x : ℕ) → 8 ≤ length u → x < slotCount → has (usedOf (sets u 0 (usedOf vs))) x ≡ has vs x
 unfolding has
 used-has u vs x l h = has-used (sets u 0 (usedOf vs)) x h ∙ rw (used-word u vs (x / 64) l (omega arith))
 
@@ -167,7 +169,7 @@ word-used : (u : List ℕ) (i : ℕ) → i < 8 → getD (usedOf u) i 0 ≡ getD 
 unfolding usedOf
 word-used u i h = getD-words8 (λ j. getD u j 0) i h
 
-module _ (u : List ℕ) (s : ℕ) (l : 8 ≤ length u) (h : s < 512) (w : Words u) where
+module _ (u : List ℕ) (s : ℕ) (l : 8 ≤ length u) (h : s < slotCount) (w : Words u) where
   at : s < 64 * length (usedOf u)
   at = omega (arith, length-used u)
 
@@ -180,13 +182,13 @@ module _ (u : List ℕ) (s : ℕ) (l : 8 ≤ length u) (h : s < 512) (w : Words 
   pub insert-same : has (usedOf (sets u 0 (usedOf (inserted (usedOf u) s)))) s ≡ 1
   insert-same = used-has u (inserted (usedOf u) s) s l h ∙ has-insert-same (usedOf u) s at
 
-  pub insert-other : (x : ℕ) → x < 512 → (x ≡ s → ⊥) → has (usedOf (sets u 0 (usedOf (inserted (usedOf u) s)))) x ≡ has (usedOf u) x
+  pub insert-other : (x : ℕ) → x < slotCount → (x ≡ s → ⊥) → has (usedOf (sets u 0 (usedOf (inserted (usedOf u) s)))) x ≡ has (usedOf u) x
   insert-other x g n = used-has u (inserted (usedOf u) s) x l g ∙ has-insert-other (usedOf u) s x n at
 
   pub remove-same : has (usedOf (sets u 0 (usedOf (removed (usedOf u) s)))) s ≡ 0
   remove-same = used-has u (removed (usedOf u) s) s l h ∙ has-removed-same (usedOf u) s at
 
-  pub remove-other : (x : ℕ) → x < 512 → (x ≡ s → ⊥) → has (usedOf (sets u 0 (usedOf (removed (usedOf u) s)))) x ≡ has (usedOf u) x
+  pub remove-other : (x : ℕ) → x < slotCount → (x ≡ s → ⊥) → has (usedOf (sets u 0 (usedOf (removed (usedOf u) s)))) x ≡ has (usedOf u) x
   remove-other x g n = used-has u (removed (usedOf u) s) x l g ∙ has-removed-other (usedOf u) s x n at
 
   word-set : (v : ℕ) → v < 2 ^ 64 → Words (sets u 0 (usedOf (set (usedOf u) k v)))
@@ -205,11 +207,8 @@ module _ (u : List ℕ) (s : ℕ) (l : 8 ≤ length u) (h : s < 512) (w : Words 
   remove-words = word-set (bitXor (getD (usedOf u) k 0) (bitAnd (getD (usedOf u) k 0) (2 ^ (s % 64))))
       (xor-lt 64 (getD (usedOf u) k 0) (bitAnd (getD (usedOf u) k 0) (2 ^ (s % 64))) word-k (and-lt 64 (getD (usedOf u) k 0) (2 ^ (s % 64)) word-k (let q : s % 64 < 64 = omega arith in pow-lt q)))
 
-pub has-others : (u : List ℕ) (x : ℕ) → Words u → x < 512 → has (others (usedOf u)) x ≡ 1 - has (usedOf u) x
-unfolding has others
-has-others u x w h =
-    rw (getD-words8 (λ i. 2 ^ 64 - 1 - getD (usedOf u) i 0) (x / 64) (omega arith))
-    (bit-not 64 (getD (usedOf u) (x / 64) 0) (x % 64) (rw (word-used u (x / 64) (omega arith)) (w (x / 64) (omega arith))) (omega arith))
+pub has-others : (u : List ℕ) (x : ℕ) → Words u → x < slotCount → has (others (usedOf u)) x ≡ 1 - has (usedOf u) x
+has-others u x w h = Sets.has-others (usedOf u) x (λ i g. rw (word-used u i g) (w i g)) h
 
 -- zeros
 pub blank-low : (n : ℕ) (l : List ℕ) (i : ℕ) → i < n → getD (blank n l) i 0 ≡ 0
@@ -224,7 +223,7 @@ blank-low n l i h = List·getD-append (zeros n) (drop n l) 0 i (omega (arith, le
     zeros-at (suc n) zero = refl
     zeros-at (suc n) (suc i) = zeros-at n i
 
-pub long-is : (b u l k c d e f : ℕ) → 33538 ≤ b → 8 ≤ u → 4096 ≤ l → 8190 ≤ k → 8192 ≤ c → 8192 ≤ d → 8192 ≤ e → 8192 ≤ f → longEnough b u l k c d e f ≡ true
+pub long-is : (b u l k c d e f : ℕ) → bytesLength ≤ b → 8 ≤ u → keyLimit ≤ l → linkLength ≤ k → setLength ≤ c → setLength ≤ d → setLength ≤ e → setLength ≤ f → longEnough b u l k c d e f ≡ true
 unfolding longEnough setsLong
 long-is b u l k c d e f h0 h1 h2 h3 h4 h5 h6 h7 =
-    rw (le-ltb b 33538 h0, le-ltb u 8 h1, le-ltb l 4096 h2, le-ltb k 8190 h3, le-ltb c 8192 h4, le-ltb d 8192 h5, le-ltb e 8192 h6, le-leb 8192 f h7)
+    rw (le-ltb b bytesLength h0, le-ltb u 8 h1, le-ltb l keyLimit h2, le-ltb k linkLength h3, le-ltb c setLength h4, le-ltb d setLength h5, le-ltb e setLength h6, le-leb setLength f h7)

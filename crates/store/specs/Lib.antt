@@ -1,11 +1,7 @@
-pub mod Answers
 pub mod Calls
 pub mod Changes
 pub mod Kept
 pub mod Links
-pub mod Means
-pub mod One
-pub mod Opening
+pub mod TablesHold
 pub mod Question
-pub mod Same
 pub mod Tables

@@ -1,4 +1,4 @@
--- Serves document 01, 'Store': the table of links that an opening leaves, place by place.
+-- Serves SCOPE.md, 'Store': the table of links that an opening leaves, place by place.
 use Prim.Native.Nat.{ℕ, zero, suc, _+_, _-_, _≤_, _<_}
 use mathlib.Core.Path.{_≡_, refl, sym, ap, _∙_}
 use mathlib.Core.List.{List, _∷_, _++_}
@@ -6,8 +6,9 @@ use native.Mathlib.Omega.{arith}
 use native.Mathlib.Decide.{ℕ-discrete, decLt}
 use lib.ListN.{length, getD, drop, replicate, length-append, length-replicate, length-drop, List·getD-append}
 use lib.Seq.{ext-getD, getD-append-add, getD-drop}
-use Rattle.chains.specs.Opening.{Freed}
+use Rattle.chains.specs.FreeChain.{Freed}
 use Rattle.store.specs.Tables.{countFrom, freed}
+use Rattle.laws.specs.Sizes.{freeHead, linkLength}
 
 length-count : (k n : ℕ) → length (countFrom k n) ≡ n
 unfolding countFrom
@@ -73,12 +74,12 @@ module _ (a b : ℕ) (l : List ℕ) where
           let y : a + b + 1 + (i - (a + b + 1)) ≡ i = omega arith in
           s (omega arith) ∙ sym (rest (omega arith) ∙ ap (λ (j : ℕ). getD rear j 0) z ∙ getD-drop (a + b + 1) l (i - (a + b + 1)) 0 ∙ ap (λ (j : ℕ). getD l j 0) y)
 
-pub freed-is : (l m : List ℕ) → 8190 ≤ length l → Freed l m → m ≡ freed l
+pub freed-is : (l m : List ℕ) → linkLength ≤ length l → Freed l m → m ≡ freed l
 unfolding freed
 freed-is l m h f = ext-getD 0 m (whole 4095 4094 l) (f .same ∙ sym (length-whole 4095 4094 l h))
     (λ i g. spot 4095 4094 l i (getD m i 0) (λ p. let z = f .next i p in omega (arith, z)) (λ p q. f .ended i p q) (λ p. ap (λ (j : ℕ). getD m j 0) p ∙ f .first) (λ p. f .rest i p))
 
-pub freed-length : (l : List ℕ) → 8190 ≤ length l → length (freed l) ≡ length l
+pub freed-length : (l : List ℕ) → linkLength ≤ length l → length (freed l) ≡ length l
 unfolding freed
 freed-length l h = length-whole 4095 4094 l h
 
@@ -87,10 +88,10 @@ pub freed-next : (l : List ℕ) (k : ℕ) → k < 4095 → getD (freed l) k 0 �
 unfolding freed
 freed-next l k h = sym (spot 4095 4094 l k (suc (suc k)) (λ p. omega arith) (λ p q. absurd (omega arith)) (λ p. absurd (omega arith)) (λ p. absurd (omega arith)))
 
-pub freed-none : (l : List ℕ) (k : ℕ) → 4095 ≤ k → k < 8189 → getD (freed l) k 0 ≡ 0
+pub freed-none : (l : List ℕ) (k : ℕ) → 4095 ≤ k → k < freeHead → getD (freed l) k 0 ≡ 0
 unfolding freed
 freed-none l k h g = sym (spot 4095 4094 l k 0 (λ p. absurd (omega arith)) (λ p q. refl) (λ p. absurd (omega arith)) (λ p. absurd (omega arith)))
 
-pub freed-first : (l : List ℕ) → getD (freed l) 8189 0 ≡ 1
+pub freed-first : (l : List ℕ) → getD (freed l) freeHead 0 ≡ 1
 unfolding freed
-freed-first l = sym (spot 4095 4094 l 8189 1 (λ p. absurd (omega arith)) (λ p q. absurd (omega arith)) (λ p. refl) (λ p. absurd (omega arith)))
+freed-first l = sym (spot 4095 4094 l freeHead 1 (λ p. absurd (omega arith)) (λ p q. absurd (omega arith)) (λ p. refl) (λ p. absurd (omega arith)))

@@ -1,4 +1,4 @@
--- Document 01, 'Paths and keys': the set found for the bytes of a key is exactly the slots in use whose term has that key.
+-- SCOPE.md, 'Paths and keys': the set found for the bytes of a key is exactly the slots in use whose term has that key.
 use Prim.Native.Nat.{ℕ, zero, suc, _+_, _-_, _*_, _/_, _%_, _≤_, _<_, min}
 use mathlib.Core.Path.{_≡_, refl, sym, _∙_, subst}
 use mathlib.Core.Logic.{_↔_}
@@ -14,34 +14,36 @@ use lib.ListN.{length, getD, replicate}
 use Rattle.laws.specs.Choice.{pick}
 use Rattle.laws.specs.Digits.{bit, bit-and}
 use Rattle.slots.specs.Slots.{has}
-use Rattle.slots.proofs.Laws.{getD-words8}
+use Rattle.slots.proofs.SlotLaws.{getD-words8}
 use Rattle.terms.specs.Terms.{Signed}
 use Rattle.keys.specs.Keys.{Place, root, step, Key, key}
 use Rattle.keys.specs.Bytes.{stepGood, endGood, stepsGood, isKey}
 use Rattle.definitions.specs.Spelt.{taken}
 use Rattle.definitions.specs.KeyBytes.{keyAfter, keyOf}
 use Rattle.chains.specs.Chains.{find, find-sound}
-use Rattle.bank.specs.Bank.{Sets, four, word, mem, met}
+use Rattle.keysets.specs.KeySets.{Sets, four, word, mem, met}
 use Rattle.paths.specs.Rep.{lab, lab-inj, At, top, kid, Rep, find-den, find-none}
 use Rattle.paths.specs.Insert.{DenK, RK}
 use Rattle.paths.specs.Locate.{find-le}
-use Rattle.paths.specs.Store.{KeyIn}
+use Rattle.paths.specs.StoredTrees.{KeyIn}
 use Rattle.layout.specs.Layout.{usedOf}
-use Rattle.layout.proofs.Laws.{signature-good}
+use Rattle.layout.proofs.LayoutLaws.{signature-good}
 use Rattle.layout.specs.Tables.{Tables}
 use Rattle.store.specs.Tables.{endNumber, numberFrom, keyNumber, slotsWith}
-use Rattle.store.specs.Means.{Slots, filled, treeIn, Holds, zero-digit}
+use Rattle.store.specs.TablesHold.{Slots, filled, treeIn, Holds, zero-digit}
 use Rattle.store.specs.Changes.{KeysOf}
+use Rattle.laws.specs.Sizes.{keyLimit, rootPlace, slotCount}
+use Rattle.terms.specs.Terms.{arity}
 
 -- the number that is found is the key's, if some key in use is that key
 pub record Named (label : List ℕ) (m : ℕ) (K : Key) : Type 0 where
-  pub found : m < 4096 → DenK label m K
-  pub lost : 4096 ≤ m → (k : ℕ) → DenK label k K → ⊥
+  pub found : m < keyLimit → DenK label m K
+  pub lost : keyLimit ≤ m → (k : ℕ) → DenK label k K → ⊥
 
 -- the steps so far lead to a place in the table, or to none
 data Going (label : List ℕ) (p : ℕ) (P : Place) : Type 0 where
   here : At label p P → Going label p P
-  nowhere : 32768 ≤ p → p < 32776 → ((n : ℕ) → At label n P → ⊥) → Going label p P
+  nowhere : 32768 ≤ p → p < rootPlace → ((n : ℕ) → At label n P → ⊥) → Going label p P
 
 -- a step that a key may have
 step-small : (sig : List ℕ) (f i : ℕ) → Signed sig → stepGood sig f i ≡ true → (f < 257) × (i - 1 < 8)
@@ -52,9 +54,9 @@ step-small sig f i g h =
     let s = g .short in
     (omega (arith, l, s), go (eqb i 0) refl (a .1))
   where
-    go : (b : Bool) → eqb i 0 ≡ b → pick b false (leb i (getD sig f 0)) ≡ true → i - 1 < 8
+    go : (b : Bool) → eqb i 0 ≡ b → pick b false (leb i (arity sig f)) ≡ true → i - 1 < 8
     go true q r = absurd (let z : _≡_ {A = ℕ} 0 1 = cc in omega arith)
-    go false q r = let z = leb-true i (getD sig f 0) r in let y = eqb-false i 0 q in let w = g .eight f in omega (arith, z, y, w)
+    go false q r = let z = leb-true i (arity sig f) r in let y = eqb-false i 0 q in let w = g .eight f in omega (arith, z, y, w)
 
 -- an end, as the label and the key have it
 end-same : (sig : List ℕ) (e : ℕ) → Signed sig → endGood sig e ≡ true → (endNumber e ≡ pick (eqb e 65535) 256 e) × (endNumber e < 257)
@@ -72,14 +74,14 @@ end-same sig e g h = go (decLt e (length sig)) h
 
 module _ (link label : List ℕ) (mem′ : ℕ → ℕ → Type 0) (R : ℕ → Place → ℕ → Type 0) (r : Rep link label mem′ R) where
   -- no key stands at a place that is none
-  none-there : (p e : ℕ) → 32768 ≤ p → p < 32776 → e < 257 → 4096 ≤ find link label (lab p e)
-  none-there p e lo hi l = go (decLt (find link label (lab p e)) 4096)
+  none-there : (p e : ℕ) → 32768 ≤ p → p < rootPlace → e < 257 → keyLimit ≤ find link label (lab p e)
+  none-there p e lo hi l = go (decLt (find link label (lab p e)) keyLimit)
     where
       not-at : (n : ℕ) (Q : Place) → At label n Q → n ≡ p → ⊥
       not-at n Q top z = omega arith
       not-at n Q (kid a k h f i m) z = omega arith
 
-      go : Dec (find link label (lab p e) < 4096) → 4096 ≤ find link label (lab p e)
+      go : Dec (find link label (lab p e) < keyLimit) → keyLimit ≤ find link label (lab p e)
       go (no q) = omega arith
       go (yes q) =
           let s = find-sound link label (lab p e) (r .chains) q in
@@ -90,12 +92,12 @@ module _ (link label : List ℕ) (mem′ : ℕ → ℕ → Type 0) (R : ℕ → 
 
   -- one step
   going : (p f i : ℕ) (P : Place) → Going label p P → f < 257 → i < 8 → Going label (find link label (lab p f) * 8 + i) (step P f i)
-  going p f i P (here a) l b = go (decLt (find link label (lab p f)) 4096)
+  going p f i P (here a) l b = go (decLt (find link label (lab p f)) keyLimit)
     where
       k : ℕ
       k = find link label (lab p f)
 
-      go : Dec (k < 4096) → Going label (k * 8 + i) (step P f i)
+      go : Dec (k < keyLimit) → Going label (k * 8 + i) (step P f i)
       go (yes q) = here (kid a q (find-sound link label (lab p f) (r .chains) q) l b refl)
       go (no q) = let z = find-le link label (lab p f) in nowhere (omega (arith, z)) (omega (arith, z)) (λ n s. none-at n s)
         where
@@ -128,13 +130,13 @@ module _ (link label : List ℕ) (mem′ : ℕ → ℕ → Type 0) (R : ℕ → 
       number-means sig _ (step P (a * 256 + b) (i - 1)) k g (going p (a * 256 + b) (i - 1) P w (s .0) (s .1)) (q .1)
 
 -- the slots of a key among those of a set
-met-has : (S : Sets) (m : ℕ) (ws : List ℕ) (s : ℕ) → m < 4096 → s < 512 → has (met S m ws) s ≡ min (bit (word S m (s / 64)) (s % 64)) (has ws s)
+met-has : (S : Sets) (m : ℕ) (ws : List ℕ) (s : ℕ) → m < keyLimit → s < slotCount → has (met S m ws) s ≡ min (bit (word S m (s / 64)) (s % 64)) (has ws s)
 unfolding met has
-met-has S m ws s l h = rw (lt-ltb m 4096 l, getD-words8 (λ i. bitAnd (word S m i) (getD ws i 0)) (s / 64) (omega arith)) (bit-and (word S m (s / 64)) (getD ws (s / 64) 0) (s % 64))
+met-has S m ws s l h = rw (lt-ltb m keyLimit l, getD-words8 (λ i. bitAnd (word S m i) (getD ws i 0)) (s / 64) (omega arith)) (bit-and (word S m (s / 64)) (getD ws (s / 64) 0) (s % 64))
 
-met-none : (S : Sets) (m : ℕ) (ws : List ℕ) (s : ℕ) → 4096 ≤ m → has (met S m ws) s ≡ 0
+met-none : (S : Sets) (m : ℕ) (ws : List ℕ) (s : ℕ) → keyLimit ≤ m → has (met S m ws) s ≡ 0
 unfolding met has
-met-none S m ws s l = rw (le-ltb m 4096 l) (zero-words 8 (s / 64))
+met-none S m ws s l = rw (le-ltb m keyLimit l) (zero-words 8 (s / 64))
   where
     zeros : ℕ → List ℕ
     zeros n = replicate n 0
@@ -145,9 +147,9 @@ met-none S m ws s l = rw (le-ltb m 4096 l) (zero-words 8 (s / 64))
     zero-words (suc n) (suc i) = zero-words n i
 
 -- THE KEY QUESTION: a slot is listed exactly where it holds a term that has the key
-pub key-means : (T : Tables) (sig : List ℕ) (st : Slots) (k : List ℕ) (s : ℕ) → Holds T sig st → isKey sig k ≡ true → s < 512 → (has (slotsWith T k) s ≡ 1) ↔ RK (KeysOf sig st) s (keyOf k)
+pub key-means : (T : Tables) (sig : List ℕ) (st : Slots) (k : List ℕ) (s : ℕ) → Holds T sig st → isKey sig k ≡ true → s < slotCount → (has (slotsWith T k) s ≡ 1) ↔ RK (KeysOf sig st) s (keyOf k)
 unfolding slotsWith keyNumber isKey keyOf
-key-means T sig st k s h e l = go (keyAfter root k) n (decLt m 4096)
+key-means T sig st k s h e l = go (keyAfter root k) n (decLt m keyLimit)
   where
     G : Signed sig
     G = subst Signed (h .signature) (signature-good (T .bytes))
@@ -156,14 +158,14 @@ key-means T sig st k s h e l = go (keyAfter root k) n (decLt m 4096)
     S = four (T .s0) (T .s1) (T .s2) (T .s3)
 
     m : ℕ
-    m = numberFrom (T .link) (T .label) 32776 k
+    m = numberFrom (T .link) (T .label) rootPlace k
 
     good-steps : (b : Bool) → pick b false (stepsGood sig k) ≡ true → stepsGood sig k ≡ true
     good-steps true q = absurd (let z : _≡_ {A = ℕ} 0 1 = cc in omega arith)
     good-steps false q = q
 
     n : Named (T .label) m (keyAfter root k)
-    n = number-means (T .link) (T .label) (mem S) (KeysOf sig st) (h .index .rep) sig 32776 root k G (here top) (good-steps (ltb 95 (length k)) e)
+    n = number-means (T .link) (T .label) (mem S) (KeysOf sig st) (h .index .rep) sig rootPlace root k G (here top) (good-steps (ltb 95 (length k)) e)
 
     in-slot : (P : Place) (x : ℕ) → KeysOf sig st s P x → has (usedOf (T .used)) s ≡ 1
     in-slot P x q = h .slots s l ∙ some-there (st s) q
@@ -172,7 +174,7 @@ key-means T sig st k s h e l = go (keyAfter root k) n (decLt m 4096)
         some-there none q = absurd q
         some-there (some t) q = refl
 
-    go : (K : Key) → Named (T .label) m K → Dec (m < 4096) → (has (met S m (usedOf (T .used))) s ≡ 1) ↔ RK (KeysOf sig st) s K
+    go : (K : Key) → Named (T .label) m K → Dec (m < keyLimit) → (has (met S m (usedOf (T .used))) s ≡ 1) ↔ RK (KeysOf sig st) s K
     go (key P x) d (yes q) = (
       (λ z. let y = met-has S m (usedOf (T .used)) s q l in h .index .rep .into m s P x (d .found q) (q, l, omega (arith, z, y))),
       (λ z. let y = met-has S m (usedOf (T .used)) s q l in let w = h .index .rep .from m s P x (d .found q) z in let v = in-slot P x z in let b = w .2 in omega (arith, y, v, b)),

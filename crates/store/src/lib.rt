@@ -1,64 +1,31 @@
-// The store over the lent tables: opening, insert, delete, and the key question (document 01, 'Store').
+// The store over the lent tables: opening, insert, delete, and the key question (SCOPE.md, 'Store').
+use calls::Reply;
 use chains::find;
 use chains::free_all;
 use chains::roomy;
+use laws::KEYS;
+use laws::ROOT;
+use laws::SETS;
+use laws::SLOTS;
 use laws::low16;
 use laws::number_at;
 use layout::clear32;
 use layout::clear64;
+use layout::lengths_suffice;
 use layout::long_enough;
+use termkeys::label_of;
 use terms::Checked;
 use terms::Refusal;
-use walks::label_of;
 ghost use mathlib.Core.Path.{_≡_};
+ghost use mathlib.Core.List.{[]};
 ghost use Prim.Native.Nat.{ℕ, _+_, _-_, _*_, _/_, _≤_, _<_};
 ghost use lib.ListN.{length, getD, take};
 ghost use Rattle.terms.specs.Terms.{Signed};
-ghost use Rattle.walks.specs.Fill.{Sized, tables};
-ghost use Rattle.store.specs.Opening.{Cleared};
-ghost use Rattle.store.specs.Calls.{openOutcome, opening, insertOutcome, inserting, deleteOutcome, deleting, keyListing, asking};
 ghost use Rattle.layout.specs.Tables.{held};
-ghost use Rattle.store.specs.Tables.{Outlined, roomFor, withKeys, withoutKeys, withoutTerm, endNumber, keyNumber};
-
-pub enum Opened {
-    Open,
-    Refused(Refusal),
-}
-
-pub enum Inserted {
-    Slot(usize),
-    Refused(Refusal),
-}
-
-pub enum Deleted {
-    Slot(usize),
-    Refused(Refusal),
-}
-
-pub enum Listed {
-    Slots(usize),
-    Refused(Refusal),
-}
-
-// Empties the key table and the sets.
-fn clear_index(
-    link: &mut [u16],
-    label: &mut [u32],
-    s0: &mut [u64],
-    s1: &mut [u64],
-    s2: &mut [u64],
-    s3: &mut [u64],
-)
-    requires { ⌜ Sized (now link) (now label) (now s0) (now s1) (now s2) (now s3) ⌝ }
-    ensures { λ _. ⌜ Cleared (now (link .entry)) (now (label .entry)) (now (s0 .entry)) (now (s1 .entry)) (now (s2 .entry)) (now (s3 .entry)) (now (link .exit)) (now (label .exit)) (now (s0 .exit)) (now (s1 .exit)) (now (s2 .exit)) (now (s3 .exit)) ⌝ }
-{
-    free_all(link);
-    clear32(label, 4096);
-    clear64(s0, 8192);
-    clear64(s1, 8192);
-    clear64(s2, 8192);
-    clear64(s3, 8192);
-}
+ghost use Rattle.calls.specs.Outcome.{outcome, told};
+ghost use Rattle.store.specs.Tables.{Outlined, noNumbers, located, KeysIn, roomFor, endNumber, keyNumber};
+ghost use Rattle.store.specs.Calls.{opening, inserting, deleting, asking};
+ghost use Rattle.laws.specs.Sizes.{bytesLength, keyLimit, linkLength, slotCount};
 
 // Sets the signature and empties all.
 pub fn open(
@@ -71,20 +38,40 @@ pub fn open(
     s2: &mut [u64],
     s3: &mut [u64],
     sig: &[u8],
-) -> Opened
-    ensures { λ r. ⌜ openOutcome r (held (now (bytes .exit)) (now (used .exit)) (now (label .exit)) (now (link .exit)) (now (s0 .exit)) (now (s1 .exit)) (now (s2 .exit)) (now (s3 .exit))) ≡ opening (held (now (bytes .entry)) (now (used .entry)) (now (label .entry)) (now (link .entry)) (now (s0 .entry)) (now (s1 .entry)) (now (s2 .entry)) (now (s3 .entry))) (now (sig .entry)) ⌝ }
+) -> Reply
+    ensures { λ r. ⌜ outcome r
+        (held (now (bytes .exit)) (now (used .exit)) (now (label .exit)) (now (link .exit))
+        (now (s0 .exit)) (now (s1 .exit)) (now (s2 .exit)) (now (s3 .exit))) []
+        ≡ told [] (opening
+        (held (now (bytes .entry)) (now (used .entry)) (now (label .entry)) (now (link .entry))
+        (now (s0 .entry)) (now (s1 .entry)) (now (s2 .entry)) (now (s3 .entry)))
+        (now (sig .entry))) ⌝ }
 {
-    if !long_enough(bytes, used, label, link, s0, s1, s2, s3) {
-        return Opened::Refused(Refusal::Table);
+    if !lengths_suffice(
+        bytes.len(),
+        used.len(),
+        label.len(),
+        link.len(),
+        s0.len(),
+        s1.len(),
+        s2.len(),
+        s3.len(),
+    ) {
+        return Reply::Refused(Refusal::Table);
     }
     let checked = terms::check_signature(sig);
     if let Checked::Refused(why) = checked {
-        return Opened::Refused(why);
+        return Reply::Refused(why);
     }
     layout::put_signature(bytes, sig);
     clear64(used, 8);
-    clear_index(link, label, s0, s1, s2, s3);
-    Opened::Open
+    clear32(label, KEYS);
+    free_all(link);
+    clear64(s0, SETS);
+    clear64(s1, SETS);
+    clear64(s2, SETS);
+    clear64(s3, SETS);
+    Reply::Done(0, 0)
 }
 
 // A term's items as its keys need them.
@@ -112,74 +99,34 @@ fn outline_of(sig: &[u8], t: &[u8]) -> Outline
     }
 }
 
+// Writes the numbers of the keys of a term's items, 4096 for one that is missing.
+fn numbers_of(link: &[u16], label: &[u32], o: Outline, keys: &mut [u16]) -> usize
+    requires { ⌜ (linkLength ≤ length (now link)) × (keyLimit ≤ length (now label)) × (o .items ≤ 32)
+        × (length (o .ups) ≡ 32) × (length (o .ends) ≡ 32) × (now keys ≡ noNumbers) ⌝ }
+    ensures { λ r. ⌜ (r ≡ o .items) × (now (keys .exit) ≡ located (now (link .entry)) (now (label .entry))
+        (take (o .items) (o .ups)) (take (o .items) (o .ends))) ⌝ }
+{
+    let n = o.items;
+    let ups = o.ups;
+    let ends = o.ends;
+    termkeys::locate(link, label, &ups[..n], &ends[..n], keys);
+    n
+}
+
 // Do the keys of a term fit; refusal 12 otherwise. Where a key is free for each item, none need be looked for.
 fn fits(link: &[u16], label: &[u32], o: Outline) -> bool
-    requires { ⌜ (8190 ≤ length (now link)) × (4096 ≤ length (now label)) × (o .items ≤ 32) × (length (o .ups) ≡ 32) × (length (o .ends) ≡ 32) ⌝ }
-    ensures { λ r. ⌜ r ≡ roomFor (now (link .entry)) (now (label .entry)) (take (o .items) (o .ups)) (take (o .items) (o .ends)) ⌝ }
+    requires { ⌜ (linkLength ≤ length (now link)) × (keyLimit ≤ length (now label)) × (o .items ≤ 32)
+        × (length (o .ups) ≡ 32) × (length (o .ends) ≡ 32) ⌝ }
+    ensures { λ r. ⌜ r ≡ roomFor (now (link .entry)) (now (label .entry))
+        (take (o .items) (o .ups)) (take (o .items) (o .ends)) ⌝ }
 {
     let n = o.items;
     if roomy(link, n) {
         return true;
     }
-    let ups = o.ups;
-    let ends = o.ends;
     let mut keys = [0u16; 32];
-    walks::locate(link, label, &ups[..n], &ends[..n], &mut keys);
-    roomy(link, walks::missing(&keys[..n]))
-}
-
-// Adds the keys of a term to the index, with its slot.
-fn add_keys(
-    link: &mut [u16],
-    label: &mut [u32],
-    s0: &mut [u64],
-    s1: &mut [u64],
-    s2: &mut [u64],
-    s3: &mut [u64],
-    o: Outline,
-    slot: usize,
-)
-    requires { ⌜ Sized (now link) (now label) (now s0) (now s1) (now s2) (now s3) × (o .items ≤ 32) × (length (o .ups) ≡ 32) × (length (o .ends) ≡ 32) × (slot < 512) ⌝ }
-    ensures { λ _. ⌜ tables (now (link .exit)) (now (label .exit)) (now (s0 .exit)) (now (s1 .exit)) (now (s2 .exit)) (now (s3 .exit)) ≡ withKeys (tables (now (link .entry)) (now (label .entry)) (now (s0 .entry)) (now (s1 .entry)) (now (s2 .entry)) (now (s3 .entry))) (take (o .items) (o .ups)) (take (o .items) (o .ends)) slot ⌝ }
-{
-    let n = o.items;
-    let ups = o.ups;
-    let ends = o.ends;
-    let mut keys = [0u16; 32];
-    walks::insert_all(
-        link,
-        label,
-        s0,
-        s1,
-        s2,
-        s3,
-        &ups[..n],
-        &ends[..n],
-        &mut keys,
-        slot,
-    );
-}
-
-// Takes a slot out of the keys of its term.
-fn drop_keys(
-    link: &mut [u16],
-    label: &mut [u32],
-    s0: &mut [u64],
-    s1: &mut [u64],
-    s2: &mut [u64],
-    s3: &mut [u64],
-    o: Outline,
-    slot: usize,
-)
-    requires { ⌜ Sized (now link) (now label) (now s0) (now s1) (now s2) (now s3) × (o .items ≤ 32) × (length (o .ups) ≡ 32) × (length (o .ends) ≡ 32) × (slot < 512) ⌝ }
-    ensures { λ _. ⌜ tables (now (link .exit)) (now (label .exit)) (now (s0 .exit)) (now (s1 .exit)) (now (s2 .exit)) (now (s3 .exit)) ≡ withoutKeys (tables (now (link .entry)) (now (label .entry)) (now (s0 .entry)) (now (s1 .entry)) (now (s2 .entry)) (now (s3 .entry))) (take (o .items) (o .ups)) (take (o .items) (o .ends)) slot ⌝ }
-{
-    let n = o.items;
-    let ups = o.ups;
-    let ends = o.ends;
-    let mut keys = [0u16; 32];
-    walks::locate(link, label, &ups[..n], &ends[..n], &mut keys);
-    walks::delete_all(link, label, s0, s1, s2, s3, &keys, n, slot);
+    numbers_of(link, label, o, &mut keys);
+    roomy(link, termkeys::missing(&keys[..n]))
 }
 
 // Takes the smallest slot not in use.
@@ -193,53 +140,74 @@ pub fn insert(
     s2: &mut [u64],
     s3: &mut [u64],
     t: &[u8],
-) -> Inserted
-    ensures { λ r. ⌜ insertOutcome r (held (now (bytes .exit)) (now (used .exit)) (now (label .exit)) (now (link .exit)) (now (s0 .exit)) (now (s1 .exit)) (now (s2 .exit)) (now (s3 .exit))) ≡ inserting (held (now (bytes .entry)) (now (used .entry)) (now (label .entry)) (now (link .entry)) (now (s0 .entry)) (now (s1 .entry)) (now (s2 .entry)) (now (s3 .entry))) (now (t .entry)) ⌝ }
+) -> Reply
+    ensures { λ r. ⌜ outcome r
+        (held (now (bytes .exit)) (now (used .exit)) (now (label .exit)) (now (link .exit))
+        (now (s0 .exit)) (now (s1 .exit)) (now (s2 .exit)) (now (s3 .exit))) []
+        ≡ told [] (inserting
+        (held (now (bytes .entry)) (now (used .entry)) (now (label .entry)) (now (link .entry))
+        (now (s0 .entry)) (now (s1 .entry)) (now (s2 .entry)) (now (s3 .entry)))
+        (now (t .entry))) ⌝ }
 {
-    if !long_enough(bytes, used, label, link, s0, s1, s2, s3) {
-        return Inserted::Refused(Refusal::Table);
+    if !lengths_suffice(
+        bytes.len(),
+        used.len(),
+        label.len(),
+        link.len(),
+        s0.len(),
+        s1.len(),
+        s2.len(),
+        s3.len(),
+    ) {
+        return Reply::Refused(Refusal::Table);
     }
     let sig = layout::signature(bytes);
     let checked = terms::check(sig, t);
     if let Checked::Refused(why) = checked {
-        return Inserted::Refused(why);
+        return Reply::Refused(why);
     }
     let set = layout::slots_used(used);
-    let slot = set.complement().least();
-    if 512 <= slot {
-        return Inserted::Refused(Refusal::Full);
+    let free = set.complement().least();
+    if SLOTS <= free {
+        return Reply::Refused(Refusal::Full);
     }
     let o = outline_of(sig, t);
     if !fits(link, label, o) {
-        return Inserted::Refused(Refusal::Keys);
+        return Reply::Refused(Refusal::Keys);
     }
-    add_keys(link, label, s0, s1, s2, s3, o, slot);
-    layout::put_term(bytes, slot, t);
-    layout::put_used(used, set.insert(slot));
-    Inserted::Slot(slot)
+    let n = o.items;
+    let ups = o.ups;
+    let ends = o.ends;
+    let mut keys = [0u16; 32];
+    termkeys::insert_all(
+        link,
+        label,
+        s0,
+        s1,
+        s2,
+        s3,
+        &ups[..n],
+        &ends[..n],
+        &mut keys,
+        free,
+    );
+    layout::put_term(bytes, free, t);
+    layout::put_used(used, set.insert(free));
+    Reply::Done(free, 0)
 }
 
-// Takes a slot out of the keys of the term that stands in it. What no insert wrote has no keys.
-fn drop_term(
-    bytes: &[u8],
-    link: &mut [u16],
-    label: &mut [u32],
-    s0: &mut [u64],
-    s1: &mut [u64],
-    s2: &mut [u64],
-    s3: &mut [u64],
-    slot: usize,
-)
-    requires { ⌜ Sized (now link) (now label) (now s0) (now s1) (now s2) (now s3) × (33538 ≤ length (now bytes)) × (slot < 512) ⌝ }
-    ensures { λ _. ⌜ tables (now (link .exit)) (now (label .exit)) (now (s0 .exit)) (now (s1 .exit)) (now (s2 .exit)) (now (s3 .exit)) ≡ withoutTerm (tables (now (link .entry)) (now (label .entry)) (now (s0 .entry)) (now (s1 .entry)) (now (s2 .entry)) (now (s3 .entry))) (now (bytes .entry)) slot ⌝ }
+// Writes the numbers of the keys of the term that stands in a slot. What no insert wrote has no keys.
+fn keys_in(bytes: &[u8], link: &[u16], label: &[u32], slot: usize, keys: &mut [u16]) -> usize
+    requires { ⌜ (bytesLength ≤ length (now bytes)) × (linkLength ≤ length (now link)) × (keyLimit ≤ length (now label))
+        × (slot < slotCount) × (now keys ≡ noNumbers) ⌝ }
+    ensures { λ r. ⌜ KeysIn (now (bytes .entry)) (now (link .entry)) (now (label .entry)) slot r (now (keys .exit)) ⌝ }
 {
     let sig = layout::signature(bytes);
     let t = layout::term(bytes, slot);
     if !terms::is_term(sig, t) {
-        return;
+        return 0;
     }
-    let o = outline_of(sig, t);
-    drop_keys(link, label, s0, s1, s2, s3, o, slot);
+    numbers_of(link, label, outline_of(sig, t), keys)
 }
 
 // Frees the slot.
@@ -253,18 +221,36 @@ pub fn delete(
     s2: &mut [u64],
     s3: &mut [u64],
     slot: usize,
-) -> Deleted
-    ensures { λ r. ⌜ deleteOutcome r (held (now (bytes .exit)) (now (used .exit)) (now (label .exit)) (now (link .exit)) (now (s0 .exit)) (now (s1 .exit)) (now (s2 .exit)) (now (s3 .exit))) ≡ deleting (held (now (bytes .entry)) (now (used .entry)) (now (label .entry)) (now (link .entry)) (now (s0 .entry)) (now (s1 .entry)) (now (s2 .entry)) (now (s3 .entry))) slot ⌝ }
+) -> Reply
+    ensures { λ r. ⌜ outcome r
+        (held (now (bytes .exit)) (now (used .exit)) (now (label .exit)) (now (link .exit))
+        (now (s0 .exit)) (now (s1 .exit)) (now (s2 .exit)) (now (s3 .exit))) []
+        ≡ told [] (deleting
+        (held (now (bytes .entry)) (now (used .entry)) (now (label .entry)) (now (link .entry))
+        (now (s0 .entry)) (now (s1 .entry)) (now (s2 .entry)) (now (s3 .entry)))
+        slot) ⌝ }
 {
-    if !long_enough(bytes, used, label, link, s0, s1, s2, s3) {
-        return Deleted::Refused(Refusal::Table);
+    if !lengths_suffice(
+        bytes.len(),
+        used.len(),
+        label.len(),
+        link.len(),
+        s0.len(),
+        s1.len(),
+        s2.len(),
+        s3.len(),
+    ) {
+        return Reply::Refused(Refusal::Table);
     }
-    if !layout::in_use(used, slot) {
-        return Deleted::Refused(Refusal::Slot);
+    let set = layout::slots_used(used);
+    if !set.contains(slot) {
+        return Reply::Refused(Refusal::Slot);
     }
-    drop_term(bytes, link, label, s0, s1, s2, s3, slot);
-    layout::put_used(used, layout::slots_used(used).remove(slot));
-    Deleted::Slot(slot)
+    let mut keys = [0u16; 32];
+    let n = keys_in(bytes, link, label, slot, &mut keys);
+    termkeys::delete_all(link, label, s0, s1, s2, s3, &keys, n, slot);
+    layout::put_used(used, set.remove(slot));
+    Reply::Done(slot, 0)
 }
 
 // The end of a key as its label has it: the star is 256.
@@ -276,18 +262,18 @@ fn end_number(e: usize) -> u16
 
 // The key that the bytes of a key name, or 4096.
 fn key_number(link: &[u16], label: &[u32], key: &[u8]) -> usize
-    requires { ⌜ (8190 ≤ length (now link)) × (4096 ≤ length (now label)) ⌝ }
+    requires { ⌜ (linkLength ≤ length (now link)) × (keyLimit ≤ length (now label)) ⌝ }
     ensures { λ r. ⌜ r ≡ keyNumber (now (link .entry)) (now (label .entry)) (now (key .entry)) ⌝ }
 {
-    let mut place: u32 = 32776;
+    let mut place: u32 = ROOT;
     let mut rest = key;
     while 2 < rest.len() {
         let k = find(link, label, label_of(place, low16(number_at(rest, 0))));
-        place = walks::place_of(k, rest[2]);
+        place = termkeys::place_of(k, rest[2]);
         rest = &rest[3..];
     }
     if rest.len() != 2 {
-        return 4096;
+        return KEYS;
     }
     find(link, label, label_of(place, end_number(number_at(rest, 0))))
 }
@@ -304,20 +290,26 @@ pub fn with_key(
     s3: &[u64],
     key: &[u8],
     out: &mut [u8],
-) -> Listed
-    ensures { λ r. ⌜ keyListing r (now (out .exit)) ≡ asking (held (now (bytes .entry)) (now (used .entry)) (now (label .entry)) (now (link .entry)) (now (s0 .entry)) (now (s1 .entry)) (now (s2 .entry)) (now (s3 .entry))) (now (key .entry)) (now (out .entry)) ⌝ }
+) -> Reply
+    ensures { λ r. ⌜ outcome r
+        (held (now (bytes .entry)) (now (used .entry)) (now (label .entry)) (now (link .entry))
+        (now (s0 .entry)) (now (s1 .entry)) (now (s2 .entry)) (now (s3 .entry))) (now (out .exit))
+        ≡ told (now (out .entry)) (asking
+        (held (now (bytes .entry)) (now (used .entry)) (now (label .entry)) (now (link .entry))
+        (now (s0 .entry)) (now (s1 .entry)) (now (s2 .entry)) (now (s3 .entry)))
+        (now (key .entry)) (length (now (out .entry)))) ⌝ }
 {
     if !long_enough(bytes, used, label, link, s0, s1, s2, s3) {
-        return Listed::Refused(Refusal::Table);
+        return Reply::Refused(Refusal::Table);
     }
     if !keys::is_key(layout::signature(bytes), key) {
-        return Listed::Refused(Refusal::Key);
+        return Reply::Refused(Refusal::Key);
     }
     let k = key_number(link, label, key);
-    let set = bank::meet(s0, s1, s2, s3, k, layout::slots_used(used));
+    let set = keysets::meet(s0, s1, s2, s3, k, layout::slots_used(used));
     let n = set.list(out);
     if out.len() < 2 * n {
-        return Listed::Refused(Refusal::Room);
+        return Reply::Refused(Refusal::Room);
     }
-    Listed::Slots(n)
+    Reply::Done(n, 0)
 }

@@ -1,5 +1,3 @@
-pub mod Conditions
-pub mod Lowest
 pub mod Numbers
 pub mod Refusals
 pub mod Terms

@@ -1,77 +1,77 @@
--- Document 01, 'Numbers of refusal': none is 0, and each names one refusal.
-use Prim.Native.Nat.{ℕ, zero, suc}
+-- SCOPE.md, 'Numbers of refusal': none is 0, and each names one refusal. A new name has its place in `names` and its
+-- line in `back`.
+use Prim.Native.Nat.{ℕ}
 use mathlib.Core.Path.{_≡_, refl, sym, ap, _∙_}
+use mathlib.Core.Bool.{Bool, true, false}
+use mathlib.Core.List.{List, [], _∷_}
 use native.Mathlib.Omega.{arith}
+use lib.Dec.{ltb, eqb}
+use borrow.Author.Tests.{ltb-true}
+use Rattle.laws.specs.Choice.{pick}
 use Rattle.terms.specs.declared.Refusal.{Refusal}
-use Rattle.terms.specs.declared.Refusal.the-variants.{Table, Signature, Relation, Slot, Size, Odd, Symbol, Shape, Key, Argument, Full, Keys, Nothing, Long, Room, Log}
+use Rattle.terms.specs.declared.Refusal.the-variants as Refusal
 use Rattle.terms.specs.declared.Checked.{Checked}
 use Rattle.terms.specs.declared.Checked.the-variants.{Good, Refused}
 use Rattle.terms.specs.Refusals.{numberOf, checkedNumber}
 
-pub number-some : (w : Refusal) → numberOf w ≡ 0 → ⊥
-number-some Table h = omega arith
-number-some Signature h = omega arith
-number-some Relation h = omega arith
-number-some Slot h = omega arith
-number-some Size h = omega arith
-number-some Odd h = omega arith
-number-some Symbol h = omega arith
-number-some Shape h = omega arith
-number-some Key h = omega arith
-number-some Argument h = omega arith
-number-some Full h = omega arith
-number-some Keys h = omega arith
-number-some Nothing h = omega arith
-number-some Long h = omega arith
-number-some Room h = omega arith
-number-some Log h = omega arith
+abbrev pub names : List Refusal
+names =
+    Refusal.Table ∷ Refusal.Signature ∷ Refusal.Relation ∷ Refusal.Slot
+    ∷ Refusal.Size ∷ Refusal.Odd ∷ Refusal.Symbol ∷ Refusal.Shape
+    ∷ Refusal.Key ∷ Refusal.Argument ∷ Refusal.Full ∷ Refusal.Keys
+    ∷ Refusal.Nothing ∷ Refusal.Long ∷ Refusal.Room ∷ Refusal.Log ∷ []
 
-named : ℕ → Refusal
-named zero = Table
-named (suc zero) = Signature
-named (suc (suc zero)) = Relation
-named (suc (suc (suc zero))) = Slot
-named (suc (suc (suc (suc zero)))) = Size
-named (suc (suc (suc (suc (suc zero))))) = Odd
-named (suc (suc (suc (suc (suc (suc zero)))))) = Symbol
-named (suc (suc (suc (suc (suc (suc (suc zero))))))) = Shape
-named (suc (suc (suc (suc (suc (suc (suc (suc zero)))))))) = Key
-named (suc (suc (suc (suc (suc (suc (suc (suc (suc zero))))))))) = Argument
-named (suc (suc (suc (suc (suc (suc (suc (suc (suc (suc zero)))))))))) = Full
-named (suc (suc (suc (suc (suc (suc (suc (suc (suc (suc (suc zero))))))))))) = Keys
-named (suc (suc (suc (suc (suc (suc (suc (suc (suc (suc (suc (suc zero)))))))))))) = Nothing
-named (suc (suc (suc (suc (suc (suc (suc (suc (suc (suc (suc (suc (suc zero))))))))))))) = Long
-named (suc (suc (suc (suc (suc (suc (suc (suc (suc (suc (suc (suc (suc (suc zero)))))))))))))) = Room
-named (suc (suc (suc (suc (suc (suc (suc (suc (suc (suc (suc (suc (suc (suc (suc zero))))))))))))))) = Log
-named (suc (suc (suc (suc (suc (suc (suc (suc (suc (suc (suc (suc (suc (suc (suc (suc n)))))))))))))))) = Log
+-- the name of a list that has a number, Table where none has
+abbrev named : List Refusal → ℕ → Refusal
+named [] n = Refusal.Table
+named (w ∷ l) n = pick (eqb n (numberOf w)) w (named l n)
 
-named-back : (w : Refusal) (n : ℕ) → numberOf w ≡ suc n → named n ≡ w
-unfolding named
-named-back Table n h = let e : n ≡ 0 = omega arith in rw e
-named-back Signature n h = let e : n ≡ 1 = omega arith in rw e
-named-back Relation n h = let e : n ≡ 2 = omega arith in rw e
-named-back Slot n h = let e : n ≡ 3 = omega arith in rw e
-named-back Size n h = let e : n ≡ 4 = omega arith in rw e
-named-back Odd n h = let e : n ≡ 5 = omega arith in rw e
-named-back Symbol n h = let e : n ≡ 6 = omega arith in rw e
-named-back Shape n h = let e : n ≡ 7 = omega arith in rw e
-named-back Key n h = let e : n ≡ 8 = omega arith in rw e
-named-back Argument n h = let e : n ≡ 9 = omega arith in rw e
-named-back Full n h = let e : n ≡ 10 = omega arith in rw e
-named-back Keys n h = let e : n ≡ 11 = omega arith in rw e
-named-back Nothing n h = let e : n ≡ 12 = omega arith in rw e
-named-back Long n h = let e : n ≡ 13 = omega arith in rw e
-named-back Room n h = let e : n ≡ 14 = omega arith in rw e
-named-back Log n h = let e : n ≡ 15 = omega arith in rw e
+back : (w : Refusal) → named names (numberOf w) ≡ w
+back Refusal.Table = refl
+back Refusal.Signature = refl
+back Refusal.Relation = refl
+back Refusal.Slot = refl
+back Refusal.Size = refl
+back Refusal.Odd = refl
+back Refusal.Symbol = refl
+back Refusal.Shape = refl
+back Refusal.Key = refl
+back Refusal.Argument = refl
+back Refusal.Full = refl
+back Refusal.Keys = refl
+back Refusal.Nothing = refl
+back Refusal.Long = refl
+back Refusal.Room = refl
+back Refusal.Log = refl
 
 pub number-one : (w v : Refusal) → numberOf w ≡ numberOf v → w ≡ v
-number-one w v h = go (numberOf w) refl
-  where
-    go : (n : ℕ) → numberOf w ≡ n → w ≡ v
-    go zero e = absurd (number-some w e)
-    go (suc n) e = sym (named-back w n e) ∙ named-back v n (sym h ∙ e)
+number-one w v h = sym (back w) ∙ ap (named names) h ∙ back v
 
--- what a check answers is told by its number: two answers that check_signature, check or check_argument may give are one
+-- a test that every name of a list passes
+abbrev pub all : (Refusal → Bool) → List Refusal → Bool
+all p [] = true
+all p (w ∷ l) = pick (p w) (all p l) false
+
+both : (b c : Bool) → pick b c false ≡ true → (b ≡ true) × (c ≡ true)
+both true c h = (refl, h)
+both false c h = absurd (let z : _≡_ {A = ℕ} 0 1 = cc in omega arith)
+
+passed : (p : Refusal → Bool) (l : List Refusal) (n : ℕ) → all p l ≡ true → p Refusal.Table ≡ true → p (named l n) ≡ true
+passed p [] n h t = t
+passed p (w ∷ l) n h t = let k = both (p w) (all p l) h in go (eqb n (numberOf w)) (k .0) (passed p l n (k .1) t)
+  where
+    go : (c : Bool) → p w ≡ true → p (named l n) ≡ true → p (pick c w (named l n)) ≡ true
+    go true e f = e
+    go false e f = f
+
+-- what every name passes, each refusal passes: one computed test for all of them
+pub every : (p : Refusal → Bool) → all p names ≡ true → (w : Refusal) → p w ≡ true
+every p h w = rw (back w) at (passed p names (numberOf w) h (both (p Refusal.Table) _ h .0))
+
+pub number-some : (w : Refusal) → numberOf w ≡ 0 → ⊥
+number-some w h = omega (arith, ltb-true 0 (numberOf w) (every (λ v. ltb 0 (numberOf v)) refl w), h)
+
+-- what a check answers is told by its number: two answers that a check may give are one
 pub checked-one : (n : ℕ) (a b : Checked) → checkedNumber a ≡ n → checkedNumber b ≡ n → a ≡ b
 checked-one n Good Good e f = refl
 checked-one n Good (Refused v) e f = absurd (number-some v (f ∙ sym e))

@@ -1,4 +1,4 @@
--- Document 01, 'Term bytes' and refusals 2, 5 to 8 and 10, as functions on bytes.
+-- SCOPE.md, 'Term bytes' and refusals 2, 5 to 8 and 10, as functions on bytes.
 use Prim.Native.Nat.{ℕ, zero, suc, _+_, _-_, _*_, _≤_, _<_, _%_, min}
 use mathlib.Core.Path.{_≡_, refl, sym, ap, _∙_}
 use mathlib.Core.List.{List, [], _∷_, _++_}
@@ -7,6 +7,11 @@ use native.Mathlib.Omega.{arith}
 use lib.Dec.{ltb, leb, eqb}
 use mathlib.Core.Bool.{Bool, true, false}
 use Rattle.laws.specs.Choice.{pick}
+use Rattle.laws.specs.Sizes.{variableBase, variableEnd}
+
+-- 'byte s is the arity of symbol s'; a variable, and what is no symbol, has none. THE ONE READING of an arity
+abbrev pub arity : List ℕ → ℕ → ℕ
+arity sig s = getD sig s 0
 
 -- the items of the bytes, two bytes an item, high byte first
 unfoldable pub numbers : List ℕ → List ℕ
@@ -19,11 +24,11 @@ unfoldable pub span : List ℕ → List ℕ → ℕ → ℕ
 span sig [] k = 2 * k
 span sig (x ∷ []) k = 2 * k
 span sig (h ∷ l ∷ r) zero = 0
-span sig (h ∷ l ∷ r) (suc k) = 2 + span sig r (getD sig (h * 256 + l) 0 + k)
+span sig (h ∷ l ∷ r) (suc k) = 2 + span sig r (arity sig (h * 256 + l) + k)
 
 -- an item is a symbol below n or one of 32 variables
 unfoldable pub declared : ℕ → ℕ → Bool
-declared n x = pick (ltb x n) true (pick (leb 32768 x) (ltb x 32800) false)
+declared n x = pick (ltb x n) true (pick (leb variableBase x) (ltb x variableEnd) false)
 
 unfoldable pub itemsGood : ℕ → List ℕ → Bool
 itemsGood n [] = true
@@ -41,7 +46,7 @@ sigRefusal s = pick (eqb (length s) 0) 2 (pick (ltb 256 (length s)) 2 (pick (ari
 -- what every walk needs of a signature: at most 256 symbols, arities of at most 8
 pub record Signed (sig : List ℕ) : Type 0 where
   pub short : length sig ≤ 256
-  pub eight : (f : ℕ) → getD sig f 0 ≤ 8
+  pub eight : (f : ℕ) → arity sig f ≤ 8
 
 -- the number of the refusal of a term, 0 where it is taken
 unfoldable pub refusal : List ℕ → List ℕ → ℕ
@@ -64,7 +69,7 @@ unfoldable pub argRefusal : List ℕ → List ℕ → ℕ → ℕ
 argRefusal sig t i =
     pick (eqb (refusal sig t) 0)
     (pick (eqb i 0) 10
-    (pick (ltb (getD sig (firstItem t) 0) i) 10
+    (pick (ltb (arity sig (firstItem t)) i) 10
     0))
     (refusal sig t)
 

@@ -1,4 +1,6 @@
-// The signature check, the term check and the argument of a term (document 01, 'Term bytes').
+// The signature check, the term check and the argument of a term (SCOPE.md, 'Term bytes').
+use laws::VARIABLE;
+use laws::VARIABLE_END;
 use laws::number_at;
 use laws::wide;
 ghost use mathlib.Core.Path.{_≡_};
@@ -9,7 +11,7 @@ ghost use Rattle.laws.specs.Choice.{pick};
 ghost use Rattle.terms.specs.Refusals.{numberOf, checkedNumber};
 ghost use Rattle.terms.specs.Terms.{span, declared as isDeclared, itemsGood, aritiesGood, sigRefusal, refusal, firstItem, argRefusal, argBytes, argStart};
 
-// Why a call is refused, in the order of document 01's numbers.
+// Why a call is refused, in the order of SCOPE.md's numbers.
 pub enum Refusal {
     Table,
     Signature,
@@ -30,7 +32,7 @@ pub enum Refusal {
 }
 
 impl Refusal {
-    // Document 01's number.
+    // SCOPE.md's number.
     pub fn number(self) -> u8
         ensures { λ r. ⌜ r ≡ numberOf self ⌝ }
     {
@@ -110,8 +112,8 @@ pub fn declared(n: usize, x: usize) -> bool
     if x < n {
         return true;
     }
-    if 32768 <= x {
-        return x < 32800;
+    if VARIABLE <= x {
+        return x < VARIABLE_END;
     }
     false
 }
@@ -159,17 +161,19 @@ pub fn check_signature(sig: &[u8]) -> Checked
     Checked::Refused(Refusal::Signature)
 }
 
-// The arguments that item x brings; what is no item brings more than a term can close, so that the pass needs no way out for it.
+// The arguments that item x brings; what is no item brings more than a term can close, so that the pass needs no way
+// out for it.
 fn brings(sig: &[u8], x: usize) -> usize
-    ensures { λ r. ⌜ (r ≡ pick (isDeclared (length (now (sig .entry))) x) (getD (now (sig .entry)) x 0) 4096) × (r ≤ 4096) ⌝ }
+    ensures { λ r. ⌜ (r ≡ pick (isDeclared (length (now (sig .entry))) x) (getD (now (sig .entry)) x 0) 4096)
+        × (r ≤ 4096) ⌝ }
 {
     if x < sig.len() {
         return wide(sig[x]);
     }
-    if x < 32768 {
+    if x < VARIABLE {
         return 4096;
     }
-    if x < 32800 { 0 } else { 4096 }
+    if x < VARIABLE_END { 0 } else { 4096 }
 }
 
 // Is t a term: one pass that counts the arguments still open.
@@ -194,7 +198,7 @@ pub fn is_term(sig: &[u8], t: &[u8]) -> bool
     opened == 0
 }
 
-// Why t is no term: refusals 5 to 8, the lowest that applies.
+// Why t is no term: of refusals 5 to 8 the first in rank that applies.
 fn refused_term(sig: &[u8], t: &[u8]) -> Checked
     ensures { λ r. ⌜ checkedNumber r ≡ refusal (now (sig .entry)) (now (t .entry)) ⌝ }
 {
@@ -217,7 +221,8 @@ fn refused_term(sig: &[u8], t: &[u8]) -> Checked
     }
 }
 
-// Refusals 5 to 8, the lowest that applies, or none. Most terms are good: what is not is looked at again for its number.
+// Of refusals 5 to 8 the first in rank that applies, or none. Most terms are good: what is not is looked at again for
+// its number.
 pub fn check(sig: &[u8], t: &[u8]) -> Checked
     ensures { λ r. ⌜ checkedNumber r ≡ refusal (now (sig .entry)) (now (t .entry)) ⌝ }
 {

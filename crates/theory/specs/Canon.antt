@@ -1,4 +1,4 @@
--- Document 01, 'The solver's record', and demand 3: most general unifiers; two that take the smallest variable are equal.
+-- SCOPE.md, 'The solver's record', and demand 3: most general unifiers; two that take the smallest variable are equal.
 use mathlib.Core.Path.{_≡_, refl, sym, ap, _∙_}
 use mathlib.Core.Logic.{_⊎_, inl, inr}
 use mathlib.Core.List.{List, [], _∷_, append-nil}
@@ -6,7 +6,7 @@ use Prim.Native.Nat.{ℕ, _≤_}
 use native.Mathlib.Decide.{ℕ-discrete}
 use native.Mathlib.Omega.{arith}
 use Rattle.theory.specs.Flat.{Item, sy, va, Terms, readable}
-use Rattle.theory.specs.Subst.{vars, app, app-vars, app-app, In, app-agree, Sub}
+use Rattle.theory.specs.Subst.{vars, app, app-vars, app-app, Occurs, app-agree, Sub}
 use Rattle.theory.specs.Unify.{one, one-same, one-other}
 
 -- a value that is a variable is no larger one
@@ -21,14 +21,14 @@ module _ (ar : ℕ → ℕ) where
     pub general : (σ : ℕ → List Item) → Sub ar σ → app σ s ≡ app σ t → (x : ℕ) → app σ (θ x) ≡ σ x
 
   -- where σ leaves l as it is, it leaves each variable of l
-  pub fixed : (σ : ℕ → List Item) → Sub ar σ → (l : List Item) → app σ l ≡ l → (x : ℕ) → In x l → σ x ≡ vars x
+  pub fixed : (σ : ℕ → List Item) → Sub ar σ → (l : List Item) → app σ l ≡ l → (x : ℕ) → Occurs x l → σ x ≡ vars x
   fixed σ w [] e x i = absurd i
   fixed σ w (sy s ∷ l) e x i = fixed σ w l (cc) x i
   fixed σ w (va y ∷ l) e x i =
       let h = readable ar 1 (σ y) (vars y) (app σ l) l (w y) tt e in
       go (h .0) (fixed σ w l (h .1) x) i
     where
-      go : σ y ≡ vars y → (In x l → σ x ≡ vars x) → (x ≡ y) ⊎ In x l → σ x ≡ vars x
+      go : σ y ≡ vars y → (Occurs x l → σ x ≡ vars x) → (x ≡ y) ⊎ Occurs x l → σ x ≡ vars x
       go a f (inl p) = rw p a
       go a f (inr j) = f j
 
@@ -68,7 +68,8 @@ module _ (ar : ℕ → ℕ) where
   pub record Most (s t : List Item) (θ : ℕ → List Item) : Type 0 where
     pub sub : Sub ar θ
     pub unifies : app θ s ≡ app θ t
-    pub factors : (σ : ℕ → List Item) → Sub ar σ → app σ s ≡ app σ t → (ρ : ℕ → List Item) × Sub ar ρ × ((x : ℕ) → σ x ≡ app ρ (θ x))
+    pub factors : (σ : ℕ → List Item) → Sub ar σ → app σ s ≡ app σ t → (ρ : ℕ → List Item) × Sub ar ρ
+        × ((x : ℕ) → σ x ≡ app ρ (θ x))
     pub idempotent : (x : ℕ) → app θ (θ x) ≡ θ x
 
   -- they say the same

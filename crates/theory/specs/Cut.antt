@@ -1,4 +1,4 @@
--- Serves document 01, 'Term bytes': the first k terms of a list, and the rest.
+-- Serves SCOPE.md, 'Term bytes': the first k terms of a list, and the rest.
 use mathlib.Core.Path.{_≡_, refl}
 use mathlib.Core.List.{List, [], _∷_, _++_}
 use Prim.Native.Nat.{ℕ, zero, suc, _+_, _<_}
@@ -60,6 +60,3 @@ module _ (ar : ℕ → ℕ) where
   term-at (suc k) (sy s ∷ l) zero t b = let e : 1 + k ≡ suc k = omega arith in (k, rw e t)
   term-at (suc k) (va x ∷ l) (suc p) t b = term-at k l p t (omega arith)
   term-at (suc k) (sy s ∷ l) (suc p) t b = term-at (ar s + k) l p t (omega arith)
-
-  pub seg-term : (k : ℕ) (l : List Item) (p : ℕ) → Terms ar k l → p < length l → Terms ar 1 (first 1 (drop p l))
-  seg-term k l p t b = let r = term-at k l p t b in first-terms 1 (r .0) (drop p l) (r .1)

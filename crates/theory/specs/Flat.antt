@@ -1,4 +1,4 @@
--- Document 01, 'Term bytes', without the bytes: an item is a symbol or a variable, and a term is a flat list of items.
+-- SCOPE.md, 'Term bytes', without the bytes: an item is a symbol or a variable, and a term is a flat list of items.
 use mathlib.Core.Path.{_≡_, refl}
 use mathlib.Core.List.{List, [], _∷_, _++_}
 use Prim.Native.Nat.{ℕ, zero, suc, _+_}

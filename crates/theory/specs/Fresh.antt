@@ -1,6 +1,7 @@
--- Serves document 01, 'The solver's record': a most general unifier brings in nothing. A variable of neither term stands in no other
--- value (`absent`), and keeps itself as its value where the smallest variables are taken (`stays`, `changed-occurs`); a change of
--- items that keeps terms terms and leaves variables and both terms alone leaves every value alone (`kept`).
+-- Serves SCOPE.md, 'The solver's record': a most general unifier brings in nothing. A variable of neither term stands
+-- in no other value (`absent`), and keeps itself as its value where the smallest variables are taken (`stays`,
+-- `changed-occurs`); a change of items that keeps terms terms and leaves variables and both terms alone leaves every
+-- value alone (`kept`).
 use mathlib.Core.Path.{_≡_, refl, sym, ap, _∙_}
 use mathlib.Core.Logic.{_⊎_, inl, inr, _≢_}
 use mathlib.Core.List.{List, [], _∷_, append-nil, map, map-append}
@@ -8,7 +9,7 @@ use Prim.Native.Nat.{ℕ, suc}
 use native.Mathlib.Decide.{ℕ-discrete}
 use native.Mathlib.Omega.{arith}
 use Rattle.theory.specs.Flat.{Item, sy, va, Terms}
-use Rattle.theory.specs.Subst.{vars, app, app-vars, app-agree, In, in?, Sub}
+use Rattle.theory.specs.Subst.{vars, app, app-vars, app-agree, Occurs, in?, Sub}
 use Rattle.theory.specs.Unify.{pick}
 use Rattle.theory.specs.Canon.{Least, Mgu, fixed, var-of-var}
 
@@ -41,8 +42,8 @@ module _ (ar : ℕ → ℕ) (s t : List Item) (θ : ℕ → List Item) (m : Mgu 
       go (yes e) = p
       go (no n) = m .sub y
 
-  module _ (z : ℕ) (ns : ¬ In z s) (nt : ¬ In z t) where
-    agrees : (u l : List Item) → ¬ In z l → app (other z u) l ≡ app θ l
+  module _ (z : ℕ) (ns : ¬ Occurs z s) (nt : ¬ Occurs z t) where
+    agrees : (u l : List Item) → ¬ Occurs z l → app (other z u) l ≡ app θ l
     agrees u l n = app-agree (other z u) θ l (λ y i. other-else z u y (λ e. n (rw e i)))
 
     other-unifies : (u : List Item) → app (other z u) s ≡ app (other z u) t
@@ -65,7 +66,7 @@ module _ (ar : ℕ → ℕ) (s t : List Item) (θ : ℕ → List Item) (m : Mgu 
             absurd (n (omega (arith, a z (v .0) (v .1), a (v .0) z k)))
 
     -- and stands in no other value
-    pub absent : (x : ℕ) → x ≢ z → ¬ In z (θ x)
+    pub absent : (x : ℕ) → x ≢ z → ¬ Occurs z (θ x)
     absent x n i =
         let e = m .general (other z (vars (suc z))) (other-sub z (vars (suc z)) tt) (other-unifies (vars (suc z))) x in
         let f = fixed ar (other z (vars (suc z))) (other-sub z (vars (suc z)) tt) (θ x) (e ∙ other-else z (vars (suc z)) x (λ p. n (sym p))) z i in
@@ -73,16 +74,16 @@ module _ (ar : ℕ → ℕ) (s t : List Item) (θ : ℕ → List Item) (m : Mgu 
         let c : suc z ≡ z = cc in omega arith
 
   -- the variables that change occur in one of the terms
-  pub changed-occurs : Least θ → (x : ℕ) → θ x ≢ vars x → In x s ⊎ In x t
+  pub changed-occurs : Least θ → (x : ℕ) → θ x ≢ vars x → Occurs x s ⊎ Occurs x t
   changed-occurs a x n = go (in? x s) (in? x t)
     where
-      go : Dec (In x s) → Dec (In x t) → In x s ⊎ In x t
+      go : Dec (Occurs x s) → Dec (Occurs x t) → Occurs x s ⊎ Occurs x t
       go (yes i) d = inl i
       go (no i) (yes j) = inr j
       go (no i) (no j) = absurd (n (stays x i j a))
 
-  -- a change of items that leaves variables and both terms alone leaves every value alone: with h a map of the undeclared symbols to
-  -- others of arity 0, no value has any of them
+  -- a change of items that leaves variables and both terms alone leaves every value alone: with h a map of the
+  -- undeclared symbols to others of arity 0, no value has any of them
   module _ (h : Item → Item) (hv : (x : ℕ) → h (va x) ≡ va x) (ht : (k : ℕ) (l : List Item) → Terms ar k l → Terms ar k (map h l)) where
     mapped : (l : List Item) → map h l ≡ l → app (λ x. map h (θ x)) l ≡ map h (app θ l)
     mapped [] e = refl

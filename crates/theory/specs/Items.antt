@@ -1,4 +1,4 @@
--- The items of a term in bytes (document 01, 'Term bytes').
+-- The items of a term in bytes (SCOPE.md, 'Term bytes').
 use mathlib.Core.Path.{_≡_, refl, sym, ap, _∙_}
 use mathlib.Core.List.{List, [], _∷_, map}
 use Prim.Native.Nat.{ℕ, zero, suc, _+_, _-_, _*_, _/_, _%_, _≤_, _<_}
@@ -11,64 +11,61 @@ use lib.Seq.{drop-cons}
 use native.Mathlib.Numerals.{add-one}
 use borrow.Author.Tests.{lt-ltb, le-ltb}
 use Rattle.laws.specs.Choice.{pick}
-use Rattle.terms.specs.Terms.{numbers}
+use Rattle.terms.specs.Terms.{numbers, arity}
 use Rattle.theory.specs.Flat.{Item, sy, va, Terms}
+use Rattle.laws.specs.Sizes.{variableBase, variableEnd}
 
--- 'that symbol' below 0x8000, '0x8000 + v is variable v' from there on. Which numbers are declared symbols and variables 0 to 31 is
--- the term check's to say (Terms of crate `terms`); a written variable goes to 63
+-- 'that symbol' below 0x8000, '0x8000 + v is variable v' from there on. Which numbers are declared symbols and
+-- variables 0 to 31 is the term check's to say (Terms of crate `terms`); a written variable goes to 63
 abbrev pub item16 : ℕ → Item
-item16 c = pick (ltb c 32768) (sy c) (va (c - 32768))
+item16 c = pick (ltb c variableBase) (sy c) (va (c - variableBase))
 
 -- and the number of an item
 abbrev pub number : Item → ℕ
 number (sy f) = f
-number (va x) = 32768 + x
+number (va x) = variableBase + x
 
 pub number-item : (c : ℕ) → number (item16 c) ≡ c
-number-item c = go (decLe 32768 c)
+number-item c = go (decLe variableBase c)
   where
-    go : Dec (32768 ≤ c) → number (item16 c) ≡ c
-    go (yes v) = rw (le-ltb c 32768 v) (omega arith)
-    go (no v) = let h : c < 32768 = omega arith in rw (lt-ltb c 32768 h)
-
--- 'Byte s is the arity of symbol s'
-abbrev pub arity : List ℕ → ℕ → ℕ
-arity sig s = getD sig s 0
+    go : Dec (variableBase ≤ c) → number (item16 c) ≡ c
+    go (yes v) = rw (le-ltb c variableBase v) (omega arith)
+    go (no v) = let h : c < variableBase = omega arith in rw (lt-ltb c variableBase h)
 
 -- items by their numbers
 abbrev pub items16 : List ℕ → List Item
 items16 pool = map item16 pool
 
-pub code-sym : (pool : List ℕ) (p : ℕ) → getD pool p 0 < 32768 → getD (items16 pool) p (sy 0) ≡ sy (getD pool p 0)
-code-sym pool p b = List·getD-map item16 pool p 0 ∙ rw (lt-ltb (getD pool p 0) 32768 b)
+pub code-sym : (pool : List ℕ) (p : ℕ) → getD pool p 0 < variableBase → getD (items16 pool) p (sy 0) ≡ sy (getD pool p 0)
+code-sym pool p b = List·getD-map item16 pool p 0 ∙ rw (lt-ltb (getD pool p 0) variableBase b)
 
-pub code-var : (pool : List ℕ) (p : ℕ) → 32768 ≤ getD pool p 0 → getD (items16 pool) p (sy 0) ≡ va (getD pool p 0 - 32768)
-code-var pool p b = List·getD-map item16 pool p 0 ∙ rw (le-ltb (getD pool p 0) 32768 b)
+pub code-var : (pool : List ℕ) (p : ℕ) → variableBase ≤ getD pool p 0 → getD (items16 pool) p (sy 0) ≡ va (getD pool p 0 - variableBase)
+code-var pool p b = List·getD-map item16 pool p 0 ∙ rw (le-ltb (getD pool p 0) variableBase b)
 
 -- the number of an item, a variable's moved into its bank ('a question variable v is written 0x8000 + 32 + v')
 unfoldable pub moved : ℕ → ℕ → ℕ
-moved bank c = pick (ltb c 32768) c (c + bank)
+moved bank c = pick (ltb c variableBase) c (c + bank)
 
-pub moved-sym : (bank c : ℕ) → c < 32768 → moved bank c ≡ c
+pub moved-sym : (bank c : ℕ) → c < variableBase → moved bank c ≡ c
 unfolding moved
-moved-sym bank c b = rw (lt-ltb c 32768 b)
+moved-sym bank c b = rw (lt-ltb c variableBase b)
 
-pub moved-var : (bank c : ℕ) → 32768 ≤ c → moved bank c ≡ c + bank
+pub moved-var : (bank c : ℕ) → variableBase ≤ c → moved bank c ≡ c + bank
 unfolding moved
-moved-var bank c b = rw (le-ltb c 32768 b)
+moved-var bank c b = rw (le-ltb c variableBase b)
 
 -- a stored term's numbers stay
 pub moved-none : (c : ℕ) → moved 0 c ≡ c
-moved-none c = go (decLe 32768 c)
+moved-none c = go (decLe variableBase c)
   where
-    go : Dec (32768 ≤ c) → moved 0 c ≡ c
+    go : Dec (variableBase ≤ c) → moved 0 c ≡ c
     go (yes v) = moved-var 0 c v ∙ add-zero c
     go (no v) = moved-sym 0 c (omega arith)
 
-pub moved-le : (bank c : ℕ) → c < 32800 → moved bank c < 32800 + bank
-moved-le bank c b = go (decLe 32768 c)
+pub moved-le : (bank c : ℕ) → c < variableEnd → moved bank c < variableEnd + bank
+moved-le bank c b = go (decLe variableBase c)
   where
-    go : Dec (32768 ≤ c) → moved bank c < 32800 + bank
+    go : Dec (variableBase ≤ c) → moved bank c < variableEnd + bank
     go (yes v) = omega (arith, moved-var bank c v)
     go (no v) = omega (arith, moved-sym bank c (omega arith))
 
@@ -135,17 +132,17 @@ pub shift-codes : (n : ℕ) (t : List ℕ) → items16 (codes n t) ≡ shift n (
 unfolding codes
 shift-codes n [] = refl
 shift-codes n (h ∷ []) = refl
-shift-codes n (h ∷ l ∷ r) = go (h * 256 + l) (decLe 32768 (h * 256 + l)) (shift-codes n r)
+shift-codes n (h ∷ l ∷ r) = go (h * 256 + l) (decLe variableBase (h * 256 + l)) (shift-codes n r)
   where
-    go : (c : ℕ) → Dec (32768 ≤ c) → items16 (codes n r) ≡ shift n (items r) → item16 (moved n c) ∷ items16 (codes n r) ≡ shift n (item16 (moved 0 c) ∷ items r)
+    go : (c : ℕ) → Dec (variableBase ≤ c) → items16 (codes n r) ≡ shift n (items r) → item16 (moved n c) ∷ items16 (codes n r) ≡ shift n (item16 (moved 0 c) ∷ items r)
     go c (yes v) ih =
-        let a : 32768 ≤ c + n = omega arith in
-        let a₀ : 32768 ≤ c + 0 = omega arith in
-        let e : c + n - 32768 ≡ n + (c + 0 - 32768) = omega arith in
-        rw (moved-var n c v, moved-var 0 c v, le-ltb (c + n) 32768 a, le-ltb (c + 0) 32768 a₀, e, ih)
+        let a : variableBase ≤ c + n = omega arith in
+        let a₀ : variableBase ≤ c + 0 = omega arith in
+        let e : c + n - variableBase ≡ n + (c + 0 - variableBase) = omega arith in
+        rw (moved-var n c v, moved-var 0 c v, le-ltb (c + n) variableBase a, le-ltb (c + 0) variableBase a₀, e, ih)
     go c (no v) ih =
-        let a : c < 32768 = omega arith in
-        rw (moved-sym n c a, moved-sym 0 c a, lt-ltb c 32768 a, ih)
+        let a : c < variableBase = omega arith in
+        rw (moved-sym n c a, moved-sym 0 c a, lt-ltb c variableBase a, ih)
 
 pub shift-terms : (ar : ℕ → ℕ) (n k : ℕ) (l : List Item) → Terms ar k l → Terms ar k (shift n l)
 shift-terms ar n zero [] t = t
@@ -154,11 +151,11 @@ shift-terms ar n (suc k) [] t = absurd t
 shift-terms ar n (suc k) (sy s ∷ l) t = shift-terms ar n (ar s + k) l t
 shift-terms ar n (suc k) (va x ∷ l) t = shift-terms ar n k l t
 
--- what the unifier needs of a term, and the term check shows (Checked, `fine`). The check shows more, as that each symbol is
--- declared: the exact words are `refusal` and IsTerm
+-- what the unifier needs of a term, and the term check shows (Checked, `fine`). The check shows more, as that each
+-- symbol is declared: the exact words are `refusal` and IsTerm
 pub record Fine (sig t : List ℕ) : Type 0 where
   pub sized : length sig ≤ 256
   pub even : length t % 2 ≡ 0
   pub short : length t ≤ 64
   pub term : Terms (arity sig) 1 (items t)
-  pub named : (i : ℕ) → i < length t / 2 → getD t (2 * i) 0 * 256 + getD t (2 * i + 1) 0 < 32800
+  pub named : (i : ℕ) → i < length t / 2 → getD t (2 * i) 0 * 256 + getD t (2 * i + 1) 0 < variableEnd

@@ -6,10 +6,10 @@ pub mod Cut
 pub mod Order
 pub mod Items
 pub mod Nodes
-pub mod Walk
+pub mod ItemWalk
 pub mod Relations
 pub mod Match
-pub mod Checked
+pub mod CheckedItems
 pub mod Robinson
 pub mod Solver
 pub mod Matcher

@@ -1,4 +1,4 @@
--- Serves document 01, 'The relations themselves': matching: a substitution that turns l into m, found in one walk.
+-- Serves SCOPE.md, 'The relations themselves': matching: a substitution that turns l into m, found in one walk.
 use mathlib.Core.Path.{_≡_, refl, sym, ap, _∙_}
 use mathlib.Core.Logic.{inl, inr, _≢_, _↔_}
 use mathlib.Core.List.{List, [], _∷_, _++_}

@@ -1,5 +1,5 @@
--- Serves document 01, 'The relations themselves': matching as a function: the bindings that turn one list of items into another, or
--- a proof that none do.
+-- Serves SCOPE.md, 'The relations themselves': matching as a function: the bindings that turn one list of items into
+-- another, or a proof that none do.
 use mathlib.Core.Path.{_≡_, refl, sym, ap, _∙_, subst}
 use mathlib.Core.Logic.{_⊎_, inl, inr}
 use mathlib.Core.Bool.{Bool, true, false}
@@ -52,7 +52,8 @@ module _ (ar : ℕ → ℕ) (s t : List Item) where
   abbrev Next : List Item → Type 0
   Next l = (B : List Bind) (k : ℕ) (m : List Item) → Inv ar s t B k l m → Matched
 
-  unfoldable pub against : (B : List Bind) (k x : ℕ) (u l m : List Item) → Terms ar 1 u → Terms ar k m → Inv ar s t B (suc k) (va x ∷ l) (u ++ m) → Next l
+  unfoldable pub against : (B : List Bind) (k x : ℕ) (u l m : List Item) → Terms ar 1 u → Terms ar k m
+      → Inv ar s t B (suc k) (va x ∷ l) (u ++ m) → Next l
       → Has x (once B x) B ⊎ (Unbound x B × (once B x ≡ vars x)) → Matched
   against B k x u l m p q v ih (inr n) = ih ((x := u) ∷ B) k m (step-new ar s t B k x u l m p q (n .0) v)
   against B k x u l m p q v ih (inl h) = go (items? (once B x) u)
@@ -67,11 +68,13 @@ module _ (ar : ℕ → ℕ) (s t : List Item) where
   matching B zero (i ∷ l) m v = absurd (v .left)
   matching B (suc k) [] m v = absurd (v .left)
   matching B (suc k) (sy f ∷ l) [] v = absurd (v .right)
-  matching B (suc k) (sy f ∷ l) (va y ∷ m) v = miss (none-symbol ar s t B (suc k) f l m (va y) (λ e. let z : _≡_ {A = ℕ} 0 1 = cc in omega arith) v)
+  matching B (suc k) (sy f ∷ l) (va y ∷ m) v = miss
+      (none-symbol ar s t B (suc k) f l m (va y) (λ e. let z : _≡_ {A = ℕ} 0 1 = cc in omega arith) v)
   matching B (suc k) (sy f ∷ l) (sy g ∷ m) v = go (ℕ-discrete g f) (λ k′ m′ v′. matching B k′ l m′ v′)
     where
       go : Dec (g ≡ f) → ((k′ : ℕ) (m′ : List Item) → Inv ar s t B k′ l m′ → Matched) → Matched
-      go (yes e) ih = ih (ar f + k) m (step-symbol ar s t B k f l m (subst (λ (r : ℕ). Inv ar s t B (suc k) (sy f ∷ l) (sy r ∷ m)) e v))
+      go (yes e) ih = ih (ar f + k) m
+          (step-symbol ar s t B k f l m (subst (λ (r : ℕ). Inv ar s t B (suc k) (sy f ∷ l) (sy r ∷ m)) e v))
       go (no n) ih = miss (none-symbol ar s t B (suc k) f l m (sy g) (λ e. n (cc)) v)
   matching B (suc k) (va x ∷ l) m v =
       let e : 1 + k ≡ suc k = omega arith in

@@ -1,5 +1,5 @@
--- Serves document 01, 'The relations themselves' and 'The solver's record': nodes, the places of a list of items where a term
--- begins.
+-- Serves SCOPE.md, 'The relations themselves' and 'The solver's record': nodes, the places of a list of items where a
+-- term begins.
 use mathlib.Core.Path.{_≡_, refl, ap}
 use mathlib.Core.Logic.{_≢_}
 use mathlib.Core.List.{List, [], _∷_, _++_}

@@ -1,5 +1,5 @@
--- Serves document 01, 'The solver's record' ('with all bindings carried through'): following the bindings comes to an end: a list
--- of the bound variables in which each value mentions only later ones.
+-- Serves SCOPE.md, 'The solver's record' ('with all bindings carried through'): following the bindings comes to an
+-- end: a list of the bound variables in which each value mentions only later ones.
 use mathlib.Core.Path.{_≡_, refl}
 use mathlib.Core.Logic.{_⊎_, inl, inr}
 use mathlib.Core.List.{List, [], _∷_, _++_}
@@ -7,7 +7,7 @@ use Prim.Native.Nat.{ℕ, zero, suc, _+_, _≤_}
 use native.Mathlib.Omega.{arith}
 use lib.ListN.{length, length-append}
 use Rattle.theory.specs.Flat.{Item}
-use Rattle.theory.specs.Subst.{app, In, in?, in-app-of}
+use Rattle.theory.specs.Subst.{app, Occurs, in?, in-app-of}
 use Rattle.theory.specs.Unify.{Bind, _:=_, full, Good, Unbound, unbound, solved, Has, solves-has, not-both}
 
 abbrev pub Mem : ℕ → List ℕ → Type 0
@@ -44,25 +44,25 @@ keep-lose : (x : ℕ) (θ : ℕ → List Item) (O : List ℕ) → length (keep x
 keep-lose x θ [] = refl
 keep-lose x θ (y ∷ O) = go (in? x (θ y)) (keep-lose x θ O)
   where
-    go : (d : Dec (In x (θ y))) → length (keep x θ O) + length (lose x θ O) ≡ length O → length (pre d y (keep x θ O)) + length (pre′ d y (lose x θ O)) ≡ suc (length O)
+    go : (d : Dec (Occurs x (θ y))) → length (keep x θ O) + length (lose x θ O) ≡ length O → length (pre d y (keep x θ O)) + length (pre′ d y (lose x θ O)) ≡ suc (length O)
     go (yes a) h = omega arith
     go (no f) h = omega arith
 
-keep-mem : (x : ℕ) (θ : ℕ → List Item) (z : ℕ) (O : List ℕ) → Mem z O → In x (θ z) → Mem z (keep x θ O)
+keep-mem : (x : ℕ) (θ : ℕ → List Item) (z : ℕ) (O : List ℕ) → Mem z O → Occurs x (θ z) → Mem z (keep x θ O)
 keep-mem x θ z [] m i = m
 keep-mem x θ z (y ∷ O) m i = go (in? x (θ y)) m (λ n. keep-mem x θ z O n i)
   where
-    go : (d : Dec (In x (θ y))) → (z ≡ y) ⊎ Mem z O → (Mem z O → Mem z (keep x θ O)) → Mem z (pre d y (keep x θ O))
+    go : (d : Dec (Occurs x (θ y))) → (z ≡ y) ⊎ Mem z O → (Mem z O → Mem z (keep x θ O)) → Mem z (pre d y (keep x θ O))
     go (yes a) (inl e) h = inl e
     go (yes a) (inr n) h = inr (h n)
     go (no f) (inl e) h = absurd (f (rw e at i))
     go (no f) (inr n) h = h n
 
-lose-mem : (x : ℕ) (θ : ℕ → List Item) (z : ℕ) (O : List ℕ) → Mem z O → ¬ In x (θ z) → Mem z (lose x θ O)
+lose-mem : (x : ℕ) (θ : ℕ → List Item) (z : ℕ) (O : List ℕ) → Mem z O → ¬ Occurs x (θ z) → Mem z (lose x θ O)
 lose-mem x θ z [] m i = m
 lose-mem x θ z (y ∷ O) m i = go (in? x (θ y)) m (λ n. lose-mem x θ z O n i)
   where
-    go : (d : Dec (In x (θ y))) → (z ≡ y) ⊎ Mem z O → (Mem z O → Mem z (lose x θ O)) → Mem z (pre′ d y (lose x θ O))
+    go : (d : Dec (Occurs x (θ y))) → (z ≡ y) ⊎ Mem z O → (Mem z O → Mem z (lose x θ O)) → Mem z (pre′ d y (lose x θ O))
     go (yes a) (inl e) h = absurd (i (rw e a))
     go (yes a) (inr n) h = h n
     go (no f) (inl e) h = inl e
@@ -70,7 +70,7 @@ lose-mem x θ z (y ∷ O) m i = go (in? x (θ y)) m (λ n. lose-mem x θ z O n i
 
 -- each bound variable of l is in O
 abbrev pub Below : List Bind → List Item → List ℕ → Type 0
-Below B l O = (z : ℕ) → In z l → (v : List Item) → Has z v B → Mem z O
+Below B l O = (z : ℕ) → Occurs z l → (v : List Item) → Has z v B → Mem z O
 
 abbrev pub Topo : List Bind → List ℕ → Type 0
 Topo B [] = Unit {0}
@@ -80,20 +80,20 @@ abbrev pub order : List Bind → List ℕ
 order [] = []
 order ((x := t) ∷ B) = keep x (full B) (order B) ++ x ∷ lose x (full B) (order B)
 
-module _ (B : List Bind) (g : Good B) (x : ℕ) (t : List Item) (n : Unbound x B) (c : ¬ In x (app (full B) t)) where
+module _ (B : List Bind) (g : Good B) (x : ℕ) (t : List Item) (n : Unbound x B) (c : ¬ Occurs x (app (full B) t)) where
   -- θ x is x
-  at-x : In x (full B x)
+  at-x : Occurs x (full B x)
   at-x = rw (unbound x B n) (inl refl)
 
   -- what a value of y mentions is below y
-  up : (y z : ℕ) (u : List Item) → Has y u B → In z u → In x (full B z) → In x (full B y)
+  up : (y z : ℕ) (u : List Item) → Has y u B → Occurs z u → Occurs x (full B z) → Occurs x (full B y)
   up y z u h i j = rw (solves-has (full B) y u B h (solved B g)) (in-app-of (full B) x z u i j)
 
   lose-topo : (O : List ℕ) → Topo B O → Topo ((x := t) ∷ B) (lose x (full B) O)
   lose-topo [] p = tt
   lose-topo (y ∷ O) p = go (in? x (full B y)) (lose-topo O (p .1))
     where
-      go : (d : Dec (In x (full B y))) → Topo ((x := t) ∷ B) (lose x (full B) O) → Topo ((x := t) ∷ B) (pre′ d y (lose x (full B) O))
+      go : (d : Dec (Occurs x (full B y))) → Topo ((x := t) ∷ B) (lose x (full B) O) → Topo ((x := t) ∷ B) (pre′ d y (lose x (full B) O))
       go (yes a) r = r
       go (no f) r = (at, r)
         where
@@ -102,15 +102,15 @@ module _ (B : List Bind) (g : Good B) (x : ℕ) (t : List Item) (n : Unbound x B
           at u (inr h) z i v (inl e) = absurd (f (up y z u h i (rw (e .0) at-x)))
           at u (inr h) z i v (inr k) = lose-mem x (full B) z O (p .0 u h z i v k) (λ j. f (up y z u h i j))
 
-  keep-topo : (O T : List ℕ) → ((z : ℕ) → Mem z O → (u : List Item) × Has z u B) → Mem x T → ((z : ℕ) → Mem z O → ¬ In x (full B z) → Mem z T) → Topo ((x := t) ∷ B) T → Topo B O → Topo ((x := t) ∷ B) (keep x (full B) O ++ T)
+  keep-topo : (O T : List ℕ) → ((z : ℕ) → Mem z O → (u : List Item) × Has z u B) → Mem x T → ((z : ℕ) → Mem z O → ¬ Occurs x (full B z) → Mem z T) → Topo ((x := t) ∷ B) T → Topo B O → Topo ((x := t) ∷ B) (keep x (full B) O ++ T)
   keep-topo [] T b m s q p = q
   keep-topo (y ∷ O) T b m s q p = go (in? x (full B y)) (keep-topo O T (λ z k. b z (inr k)) m (λ z k. s z (inr k)) q (p .1))
     where
-      go : (d : Dec (In x (full B y))) → Topo ((x := t) ∷ B) (keep x (full B) O ++ T) → Topo ((x := t) ∷ B) (pre d y (keep x (full B) O) ++ T)
+      go : (d : Dec (Occurs x (full B y))) → Topo ((x := t) ∷ B) (keep x (full B) O ++ T) → Topo ((x := t) ∷ B) (pre d y (keep x (full B) O) ++ T)
       go (no f) r = r
       go (yes a) r = (at, r)
         where
-          side : (z : ℕ) → Mem z O → Dec (In x (full B z)) → Mem z (keep x (full B) O ++ T)
+          side : (z : ℕ) → Mem z O → Dec (Occurs x (full B z)) → Mem z (keep x (full B) O ++ T)
           side z k (yes j) = mem-left z (keep x (full B) O) T (keep-mem x (full B) z O k j)
           side z k (no j) = mem-right z (keep x (full B) O) T (s z (inr k) j)
 
@@ -123,7 +123,7 @@ keep-sub : (x : ℕ) (θ : ℕ → List Item) (z : ℕ) (O : List ℕ) → Mem z
 keep-sub x θ z [] m = m
 keep-sub x θ z (y ∷ O) m = go (in? x (θ y)) m (keep-sub x θ z O)
   where
-    go : (d : Dec (In x (θ y))) → Mem z (pre d y (keep x θ O)) → (Mem z (keep x θ O) → Mem z O) → (z ≡ y) ⊎ Mem z O
+    go : (d : Dec (Occurs x (θ y))) → Mem z (pre d y (keep x θ O)) → (Mem z (keep x θ O) → Mem z O) → (z ≡ y) ⊎ Mem z O
     go (yes a) (inl e) h = inl e
     go (yes a) (inr n) h = inr (h n)
     go (no f) n h = inr (h n)
@@ -132,7 +132,7 @@ lose-sub : (x : ℕ) (θ : ℕ → List Item) (z : ℕ) (O : List ℕ) → Mem z
 lose-sub x θ z [] m = m
 lose-sub x θ z (y ∷ O) m = go (in? x (θ y)) m (lose-sub x θ z O)
   where
-    go : (d : Dec (In x (θ y))) → Mem z (pre′ d y (lose x θ O)) → (Mem z (lose x θ O) → Mem z O) → (z ≡ y) ⊎ Mem z O
+    go : (d : Dec (Occurs x (θ y))) → Mem z (pre′ d y (lose x θ O)) → (Mem z (lose x θ O) → Mem z O) → (z ≡ y) ⊎ Mem z O
     go (no f) (inl e) h = inl e
     go (no f) (inr n) h = inr (h n)
     go (yes a) n h = inr (h n)
@@ -168,7 +168,7 @@ order-all [] z u h = h
 order-all ((x := t) ∷ B) z u (inl e) = mem-right z (keep x (full B) (order B)) (x ∷ lose x (full B) (order B)) (inl (e .0))
 order-all ((x := t) ∷ B) z u (inr h) = go (order-all B z u h) (in? x (full B z))
   where
-    go : Mem z (order B) → Dec (In x (full B z)) → Mem z (order ((x := t) ∷ B))
+    go : Mem z (order B) → Dec (Occurs x (full B z)) → Mem z (order ((x := t) ∷ B))
     go m (yes j) = mem-left z (keep x (full B) (order B)) (x ∷ lose x (full B) (order B)) (keep-mem x (full B) z (order B) m j)
     go m (no j) = mem-right z (keep x (full B) (order B)) (x ∷ lose x (full B) (order B)) (inr (lose-mem x (full B) z (order B) m j))
 
@@ -186,20 +186,20 @@ order-topo ((x := t) ∷ B) g =
     last u (inl e) z i v (inr k) = lose-mem x (full B) z (order B) (order-all B z v k) (λ j. g .1 (in-app-of (full B) x z t (rw (e .1) at i) j))
 
 -- following the bindings from l ends within d levels
-abbrev pub Ends : List Bind → ℕ → List Item → Type 0
-Ends B zero l = (y : ℕ) → In y l → (u : List Item) → Has y u B → ⊥
-Ends B (suc d) l = (y : ℕ) → In y l → (u : List Item) → Has y u B → Ends B d u
+abbrev pub FollowingEnds : List Bind → ℕ → List Item → Type 0
+FollowingEnds B zero l = (y : ℕ) → Occurs y l → (u : List Item) → Has y u B → ⊥
+FollowingEnds B (suc d) l = (y : ℕ) → Occurs y l → (u : List Item) → Has y u B → FollowingEnds B d u
 
 topo-ends-go : (B : List Bind) (d y : ℕ) (u : List Item) → Has y u B → (O : List ℕ) → Topo B O → length O ≤ suc d → Mem y O
-    → ((O : List ℕ) → Topo B O → length O ≤ d → (l : List Item) → Below B l O → Ends B d l) → Ends B d u
+    → ((O : List ℕ) → Topo B O → length O ≤ d → (l : List Item) → Below B l O → FollowingEnds B d l) → FollowingEnds B d u
 topo-ends-go B d y u k [] p b m ih = absurd m
 topo-ends-go B d y u k (z ∷ O) p b (inl e) ih = ih O (p .1) (omega arith) u (p .0 u (rw e at k))
 topo-ends-go B d y u k (z ∷ O) p b (inr m) ih = topo-ends-go B d y u k O (p .1) (omega arith) m ih
 
-pub topo-ends : (B : List Bind) (d : ℕ) (O : List ℕ) → Topo B O → length O ≤ d → (l : List Item) → Below B l O → Ends B d l
+pub topo-ends : (B : List Bind) (d : ℕ) (O : List ℕ) → Topo B O → length O ≤ d → (l : List Item) → Below B l O → FollowingEnds B d l
 topo-ends B zero [] p b l h = h
 topo-ends B zero (y ∷ O) p b l h = absurd (omega arith)
 topo-ends B (suc d) O p b l h = λ y i u k. topo-ends-go B d y u k O p b (h y i u k) (topo-ends B d)
 
-pub ends : (B : List Bind) → Good B → (l : List Item) → Ends B (length B) l
+pub ends : (B : List Bind) → Good B → (l : List Item) → FollowingEnds B (length B) l
 ends B g l = topo-ends B (length B) (order B) (order-topo B g) (omega (arith, order-length B)) l (λ z i v k. order-all B z v k)

@@ -1,4 +1,4 @@
--- Document 01, 'The relations themselves', on the items of two terms.
+-- SCOPE.md, 'The relations themselves', on the items of two terms.
 use mathlib.Core.Path.{_≡_, refl}
 use mathlib.Core.Bool.{Bool, true, false}
 use mathlib.Core.List.{List}
@@ -6,7 +6,8 @@ use Prim.Native.Nat.{ℕ}
 use native.Mathlib.Omega.{arith}
 use Rattle.theory.specs.Flat.{Item}
 use Rattle.theory.specs.Subst.{vars, app, Sub}
-use Rattle.theory.specs.Items.{arity, items, shift}
+use Rattle.theory.specs.Items.{items, shift}
+use Rattle.terms.specs.Terms.{arity}
 
 -- 'some substitution turns q into t': the variables of t stand still
 pub record Turns (ar : ℕ → ℕ) (q t : List Item) : Type 0 where

@@ -1,4 +1,5 @@
--- Robinson's method (document 01, 'The solver's record'): the invariant of its state, kept by each step, and what holds at each end.
+-- Robinson's method (SCOPE.md, 'The solver's record'): the invariant of its state, kept by each step, and what holds
+-- at each end.
 use mathlib.Core.Path.{_≡_, refl, sym, _∙_}
 use mathlib.Core.Logic.{_≢_, _↔_}
 use mathlib.Core.List.{List, [], _∷_, _++_, append-cancel-left}
@@ -6,7 +7,7 @@ use Prim.Native.Nat.{ℕ, suc, _+_, _≤_}
 use native.Mathlib.Omega.{arith}
 use lib.ListN.{length}
 use Rattle.theory.specs.Flat.{Item, sy, va, Terms, terms-append, readable}
-use Rattle.theory.specs.Subst.{vars, app, app-append, In, Sub, app-terms}
+use Rattle.theory.specs.Subst.{vars, app, app-append, Occurs, Sub, app-terms}
 use Rattle.theory.specs.Unify.{Bind, _:=_, full, Solves, Good, Unbound, Values, full-sub, solved, absorbs, circular, Has, solves-has}
 use Rattle.theory.specs.Canon.{Least, Mgu, least-step}
 
@@ -80,7 +81,7 @@ module _ (ar : ℕ → ℕ) where
         (let e : 1 + k ≡ suc k = omega arith in rw e at (terms-append ar 1 k u l p (v .left))) (v .right)
         (λ σ w z. let e = follow ar σ w x u l (solves-has σ x u B h z) in ((λ d. sym e ∙ d), (λ d. e ∙ d)))
 
-    pub step-bind : (k x : ℕ) (u l m : List Item) → Terms ar 1 u → Terms ar k m → Unbound x B → ¬ In x (app (full B) u)
+    pub step-bind : (k x : ℕ) (u l m : List Item) → Terms ar 1 u → Terms ar k m → Unbound x B → ¬ Occurs x (app (full B) u)
         → ((y : ℕ) → app (full B) u ≡ vars y → y ≤ x) → Inv s t B (suc k) (va x ∷ l) (u ++ m) → Inv s t ((x := u) ∷ B) k l m
     step-bind k x u l m p q a n c v = record {
       good = (a, n, v .good);
@@ -108,11 +109,11 @@ module _ (ar : ℕ → ℕ) where
     pub none-clash : (k f g : ℕ) (l m : List Item) → f ≢ g → Inv s t B k (sy f ∷ l) (sy g ∷ m) → (σ : ℕ → List Item) → Sub ar σ → app σ s ≡ app σ t → ⊥
     none-clash k f g l m h v σ w e = clash ar σ w f g l m h (v .same σ w .0 e .1)
 
-    in-length₁ : (x : ℕ) (l : List Item) → In x l → 1 ≤ length l
+    in-length₁ : (x : ℕ) (l : List Item) → Occurs x l → 1 ≤ length l
     in-length₁ x [] i = absurd i
     in-length₁ x (a ∷ l) i = omega arith
 
-    pub none-circular : (k x f : ℕ) (u l m : List Item) → Terms ar 1 (sy f ∷ u) → In x (app (full B) u)
+    pub none-circular : (k x f : ℕ) (u l m : List Item) → Terms ar 1 (sy f ∷ u) → Occurs x (app (full B) u)
         → Inv s t B (suc k) (va x ∷ l) (sy f ∷ u ++ m) → (σ : ℕ → List Item) → Sub ar σ → app σ s ≡ app σ t → ⊥
     none-circular k x f u l m p i v σ w e =
         let d = v .same σ w .0 e in

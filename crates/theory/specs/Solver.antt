@@ -1,5 +1,5 @@
--- Document 01, 'The solver's record': Robinson's method ends: two terms have a most general unifier that takes the smallest
--- variables, or none at all.
+-- SCOPE.md, 'The solver's record': Robinson's method ends: two terms have a most general unifier that takes the
+-- smallest variables, or none at all.
 use mathlib.Core.Path.{_≡_, refl, sym, ap, _∙_, subst}
 use mathlib.Core.Logic.{_⊎_, inl, inr, _≢_}
 use mathlib.Core.Option.{Option}
@@ -9,12 +9,12 @@ use native.Mathlib.Decide.{ℕ-discrete, decLe}
 use native.Mathlib.Omega.{arith}
 use lib.ListN.{length}
 use Rattle.theory.specs.Flat.{Item, sy, va, Terms}
-use Rattle.theory.specs.Subst.{vars, app, app-append, In, in?, in-append, in-left, in-right, Sub}
+use Rattle.theory.specs.Subst.{vars, app, app-append, Occurs, in?, in-append, in-left, in-right, Sub}
 use Rattle.theory.specs.Unify.{pick, Bind, _:=_, full, Good, Unbound, unbound, Values, solved, Has, solves-has, not-both}
 use Rattle.theory.specs.Canon.{Least, Mgu}
 use Rattle.theory.specs.Match.{once}
 use Rattle.theory.specs.Robinson.{Inv, start, step-symbol, step-same, step-swap, step-follow, step-bind, found, none-clash, none-circular}
-use Rattle.theory.specs.Order.{Mem, Ends, ends}
+use Rattle.theory.specs.Order.{Mem, FollowingEnds, ends}
 use Rattle.theory.specs.Cut.{first, rest, first-rest, first-terms, rest-terms}
 
 -- a variable has a binding, or none
@@ -23,7 +23,8 @@ once-cases [] y = inr (tt, refl)
 once-cases ((x := t) ∷ B) y = go (ℕ-discrete x y) (once-cases B y)
   where
     go : (d : Dec (x ≡ y)) → Has y (once B y) B ⊎ (Unbound y B × (once B y ≡ vars y))
-        → (((y ≡ x) × (pick d t (once B y) ≡ t)) ⊎ Has y (pick d t (once B y)) B) ⊎ (((x ≢ y) × Unbound y B) × (pick d t (once B y) ≡ vars y))
+        → (((y ≡ x) × (pick d t (once B y) ≡ t)) ⊎ Has y (pick d t (once B y)) B) ⊎
+        (((x ≢ y) × Unbound y B) × (pick d t (once B y) ≡ vars y))
     go (yes e) h = inl (inl (sym e, refl))
     go (no f) (inl h) = inl (inr h)
     go (no f) (inr h) = inr ((f, h .0), h .1)
@@ -68,7 +69,7 @@ free-less (v ∷ N) x u B (inr m) n = omega (arith, free-less N x u B m n, go (o
 
 -- every variable of l is in N
 abbrev pub Within : List ℕ → List Item → Type 0
-Within N l = (z : ℕ) → In z l → Mem z N
+Within N l = (z : ℕ) → Occurs z l → Mem z N
 
 abbrev pub Scoped : List ℕ → List Bind → Type 0
 Scoped N B = (x : ℕ) (u : List Item) → Has x u B → Within N u
@@ -102,7 +103,8 @@ module _ (ar : ℕ → ℕ) where
       pub even : app (full B) list ≡ app (full B) l
 
     -- bindings followed to the end at the head of the left list
-    unfoldable pub at-follow : (B : List Bind) (k x : ℕ) (u l m : List Item) → Has x u B → At B (suc k) (va x ∷ l) m → At B (suc k) (u ++ l) m
+    unfoldable pub at-follow : (B : List Bind) (k x : ℕ) (u l m : List Item) → Has x u B → At B (suc k) (va x ∷ l) m
+        → At B (suc k) (u ++ l) m
     at-follow B k x u l m h a = record {
       inv = step-follow ar s t B k x u l m h (values-has B (a .inv .values) x u h) (a .inv);
       lin = λ z i. side z (in-append z u l i);
@@ -110,23 +112,38 @@ module _ (ar : ℕ → ℕ) where
       bin = a .bin;
     }
       where
-        side : (z : ℕ) → In z u ⊎ In z l → Mem z N
+        side : (z : ℕ) → Occurs z u ⊎ Occurs z l → Mem z N
         side z (inl i) = a .bin x u h z i
         side z (inr i) = a .lin z (inr i)
 
     pub even-follow : (B : List Bind) (x : ℕ) (u l : List Item) → Good B → Has x u B → app (full B) (u ++ l) ≡ app (full B) (va x ∷ l)
     even-follow B x u l g h = app-append (full B) u l ∙ ap (λ r. r ++ app (full B) l) (sym (solves-has (full B) x u B h (solved B g)))
 
-    unfoldable pub face-bound : (B : List Bind) (d k x : ℕ) (u l m : List Item) → Has x u B → Terms ar 1 u → Ends B d u → At B (suc k) (va x ∷ l) m
-        → ((y : ℕ) → Ends B d (vars y) → At B (suc k) (va y ∷ l) m → Faced B (suc k) (va y ∷ l) m) → Faced B (suc k) (va x ∷ l) m
+    unfoldable pub face-bound : (B : List Bind) (d k x : ℕ) (u l m : List Item) → Has x u B → Terms ar 1 u
+        → FollowingEnds B d u → At B (suc k) (va x ∷ l) m
+        → ((y : ℕ) → FollowingEnds B d (vars y) → At B (suc k) (va y ∷ l) m → Faced B (suc k) (va y ∷ l) m)
+        → Faced B (suc k) (va x ∷ l) m
     face-bound B d k x [] l m h p e a ih = absurd p
-    face-bound B d k x (sy f ∷ u) l m h p e a ih = record { list = sy f ∷ u ++ l; at = at-follow B k x (sy f ∷ u) l m h a; ready = tt; even = even-follow B x (sy f ∷ u) l (a .inv .good) h }
+    face-bound B d k x (sy f ∷ u) l m h p e a ih = record {
+      list = sy f ∷ u ++ l;
+      at = at-follow B k x (sy f ∷ u) l m h a;
+      ready = tt;
+      even = even-follow B x
+          (sy f ∷ u) l (a .inv .good) h;
+    }
     face-bound B d k x (va y ∷ []) l m h p e a ih =
         let r = ih y e (at-follow B k x (vars y) l m h a) in
-        record { list = r .list; at = r .at; ready = r .ready; even = r .even ∙ even-follow B x (vars y) l (a .inv .good) h }
+        record {
+          list = r .list;
+          at = r .at;
+          ready = r .ready;
+          even = r .even ∙ even-follow B x (vars y) l
+              (a .inv .good) h;
+        }
     face-bound B d k x (va y ∷ i ∷ u) l m h p e a ih = absurd p
 
-    unfoldable pub face-var : (B : List Bind) (d k x : ℕ) (l m : List Item) → Ends B d (vars x) → At B (suc k) (va x ∷ l) m → Faced B (suc k) (va x ∷ l) m
+    unfoldable pub face-var : (B : List Bind) (d k x : ℕ) (l m : List Item) → FollowingEnds B d (vars x)
+        → At B (suc k) (va x ∷ l) m → Faced B (suc k) (va x ∷ l) m
     face-var B zero k x l m e a = go (once-cases B x)
       where
         go : Has x (once B x) B ⊎ (Unbound x B × (once B x ≡ vars x)) → Faced B (suc k) (va x ∷ l) m
@@ -134,9 +151,12 @@ module _ (ar : ℕ → ℕ) where
         go (inl h) = absurd (e x (inl refl) (once B x) h)
     face-var B (suc d) k x l m e a = go (once-cases B x) (λ y e′ a′. face-var B d k y l m e′ a′)
       where
-        go : Has x (once B x) B ⊎ (Unbound x B × (once B x ≡ vars x)) → ((y : ℕ) → Ends B d (vars y) → At B (suc k) (va y ∷ l) m → Faced B (suc k) (va y ∷ l) m) → Faced B (suc k) (va x ∷ l) m
+        go : Has x (once B x) B ⊎ (Unbound x B × (once B x ≡ vars x))
+            → ((y : ℕ) → FollowingEnds B d (vars y) → At B (suc k) (va y ∷ l) m → Faced B (suc k) (va y ∷ l) m)
+            → Faced B (suc k) (va x ∷ l) m
         go (inr h) ih = record { list = va x ∷ l; at = a; ready = h .0; even = refl }
-        go (inl h) ih = face-bound B d k x (once B x) l m h (values-has B (a .inv .values) x (once B x) h) (e x (inl refl) (once B x) h) a ih
+        go (inl h) ih = face-bound B d k x (once B x) l m h (values-has B (a .inv .values) x (once B x) h)
+            (e x (inl refl) (once B x) h) a ih
 
     unfoldable pub face : (B : List Bind) (k : ℕ) (l m : List Item) → At B k l m → Faced B k l m
     face B k [] m a = record { list = []; at = a; ready = tt; even = refl }
@@ -150,7 +170,8 @@ module _ (ar : ℕ → ℕ) where
       unsolvable : ((σ : ℕ → List Item) → Sub ar σ → app σ s ≡ app σ t → ⊥) → Answer
 
     -- x, with no binding, against a term u that is not x
-    unfoldable pub at-bind : (B : List Bind) (k x : ℕ) (u l m : List Item) → Terms ar 1 u → Terms ar k m → Unbound x B → ¬ In x (app (full B) u)
+    unfoldable pub at-bind : (B : List Bind) (k x : ℕ) (u l m : List Item) → Terms ar 1 u → Terms ar k m
+        → Unbound x B → ¬ Occurs x (app (full B) u)
         → ((y : ℕ) → app (full B) u ≡ vars y → y ≤ x) → At B (suc k) (va x ∷ l) (u ++ m) → At ((x := u) ∷ B) k l m
     at-bind B k x u l m p q n c y a = record {
       inv = step-bind ar s t B k x u l m p q n c y (a .inv);
@@ -170,7 +191,8 @@ module _ (ar : ℕ → ℕ) where
     Smaller B l₀ = (k : ℕ) (l m : List Item) → At B k l m → length (app (full B) l) < length (app (full B) l₀) → Answer
 
     -- a variable with no binding against a symbol
-    unfoldable pub var-symbol : (B : List Bind) (k x f : ℕ) (l m : List Item) → Fewer B → Unbound x B → At B (suc k) (va x ∷ l) (sy f ∷ m) → Answer
+    unfoldable pub var-symbol : (B : List Bind) (k x f : ℕ) (l m : List Item) → Fewer B → Unbound x B
+        → At B (suc k) (va x ∷ l) (sy f ∷ m) → Answer
     var-symbol B k x f l m ih n a = go (in? x (app (full B) (first ar (ar f + 0) m)))
       where
         more : Terms ar (1 + k) (sy f ∷ m)
@@ -182,7 +204,7 @@ module _ (ar : ℕ → ℕ) where
         a′ : At B (suc k) (va x ∷ l) (sy f ∷ first ar (ar f + 0) m ++ rest ar (ar f + 0) m)
         a′ = subst (λ (r : List Item). At B (suc k) (va x ∷ l) r) (sym (first-rest ar 1 (sy f ∷ m))) a
 
-        go : Dec (In x (app (full B) (first ar (ar f + 0) m))) → Answer
+        go : Dec (Occurs x (app (full B) (first ar (ar f + 0) m))) → Answer
         go (yes i) = unsolvable (none-circular ar s t B k x f (first ar (ar f + 0) m) l (rest ar (ar f + 0) m) one₁ i (a′ .inv))
         go (no i) = ih ((x := (sy f ∷ first ar (ar f + 0) m)) ∷ B) k l (rest ar (ar f + 0) m)
             (at-bind B k x (sy f ∷ first ar (ar f + 0) m) l (rest ar (ar f + 0) m) one₁ (rest-terms ar 1 k (sy f ∷ m) more) n i
@@ -190,42 +212,61 @@ module _ (ar : ℕ → ℕ) where
             (free-less N x (sy f ∷ first ar (ar f + 0) m) B (a .lin x (inl refl)) n)
 
     -- two different variables with no binding: the larger is bound
-    unfoldable pub var-var : (B : List Bind) (k x y : ℕ) (l m : List Item) → Fewer B → Unbound x B → Unbound y B → y < x → At B (suc k) (va x ∷ l) (va y ∷ m) → Answer
+    unfoldable pub var-var : (B : List Bind) (k x y : ℕ) (l m : List Item) → Fewer B → Unbound x B → Unbound y B
+        → y < x → At B (suc k) (va x ∷ l) (va y ∷ m) → Answer
     var-var B k x y l m ih n o b a = ih ((x := vars y) ∷ B) k l m
-        (at-bind B k x (vars y) l m tt (a .inv .right) n (λ i. apart (rw (stay) at i)) (λ z e. (let c : y ≡ z = cc (stay) in omega arith)) a)
+        (at-bind B k x (vars y) l m tt (a .inv .right) n (λ i. apart (rw (stay) at i))
+        (λ z e. (let c : y ≡ z = cc (stay) in omega arith)) a)
         (free-less N x (vars y) B (a .lin x (inl refl)) n)
       where
         stay : app (full B) (vars y) ≡ vars y
         stay = append-nil _ ∙ unbound y B o
 
-        apart : In x (vars y) → ⊥
+        apart : Occurs x (vars y) → ⊥
         apart (inl e) = omega arith
 
-    unfoldable pub step : (B : List Bind) (k : ℕ) (l m : List Item) → At B k l m → Ready B l → Ready B m → Fewer B → Smaller B l → Answer
+    unfoldable pub step : (B : List Bind) (k : ℕ) (l m : List Item) → At B k l m → Ready B l → Ready B m → Fewer B
+        → Smaller B l → Answer
     step B zero [] [] a p q ih jh = bound B (a .inv .good) (found ar s t B [] (a .inv)) (a .inv .least)
     step B zero [] (j ∷ m) a p q ih jh = absurd (a .inv .right)
     step B zero (i ∷ l) m a p q ih jh = absurd (a .inv .left)
     step B (suc k) [] m a p q ih jh = absurd (a .inv .left)
     step B (suc k) (i ∷ l) [] a p q ih jh = absurd (a .inv .right)
-    step B (suc k) (sy f ∷ l) (va y ∷ m) a p q ih jh = var-symbol B k y f m l ih q (at-swap B (suc k) (sy f ∷ l) (va y ∷ m) a)
+    step B (suc k) (sy f ∷ l) (va y ∷ m) a p q ih jh = var-symbol B k y f m l ih q
+        (at-swap B (suc k) (sy f ∷ l) (va y ∷ m) a)
     step B (suc k) (va x ∷ l) (sy g ∷ m) a p q ih jh = var-symbol B k x g l m ih p a
     step B (suc k) (sy f ∷ l) (sy g ∷ m) a p q ih jh = go (ℕ-discrete g f)
       where
         go : Dec (g ≡ f) → Answer
         go (no h) = unsolvable (none-clash ar s t B (suc k) f g l m (λ e. h (sym e)) (a .inv))
         go (yes h) = jh (ar f + k) l m
-            (record { inv = step-symbol ar s t B k f l m (subst (λ (r : ℕ). Inv ar s t B (suc k) (sy f ∷ l) (sy r ∷ m)) h (a .inv)); lin = a .lin; rin = a .rin; bin = a .bin })
+            (record {
+              inv = step-symbol ar s t B k f l m
+                  (subst (λ (r : ℕ). Inv ar s t B (suc k) (sy f ∷ l) (sy r ∷ m)) h (a .inv));
+              lin = a .lin;
+              rin = a
+                  .rin;
+              bin = a .bin;
+            })
             (omega arith)
     step B (suc k) (va x ∷ l) (va y ∷ m) a p q ih jh = go (ℕ-discrete y x) (decLe x y)
       where
         go : Dec (y ≡ x) → Dec (x ≤ y) → Answer
         go (yes h) d = jh k l m
-            (record { inv = step-same ar s t B k x l m (subst (λ (r : ℕ). Inv ar s t B (suc k) (va x ∷ l) (va r ∷ m)) h (a .inv)); lin = λ z i. a .lin z (inr i); rin = λ z i. a .rin z (inr i); bin = a .bin })
+            (record {
+              inv = step-same ar s t B k x l m
+                  (subst (λ (r : ℕ). Inv ar s t B (suc k) (va x ∷ l) (va r ∷ m)) h (a .inv));
+              lin = λ z i. a .lin z
+                  (inr i);
+              rin = λ z i. a .rin z (inr i);
+              bin = a .bin;
+            })
             (rw (unbound x B p) (omega arith))
         go (no h) (no d) = var-var B k x y l m ih p q (omega arith) a
         go (no h) (yes d) = var-var B k y x m l ih q p (omega arith) (at-swap B (suc k) (va x ∷ l) (va y ∷ m) a)
 
-    unfoldable pub by-size : (B : List Bind) → Fewer B → (z k : ℕ) (l m : List Item) → At B k l m → length (app (full B) l) < z → Answer
+    unfoldable pub by-size : (B : List Bind) → Fewer B → (z k : ℕ) (l m : List Item) → At B k l m
+        → length (app (full B) l) < z → Answer
     by-size B ih zero k l m a b = absurd (omega arith)
     by-size B ih (suc z) k l m a b =
         let f = face B k l m a in
@@ -235,7 +276,8 @@ module _ (ar : ℕ → ℕ) where
 
     unfoldable pub by-free : (n : ℕ) (B : List Bind) (k : ℕ) (l m : List Item) → At B k l m → free N B < n → Answer
     by-free zero B k l m a b = absurd (omega arith)
-    by-free (suc n) B k l m a b = by-size B (λ B′ k′ l′ m′ a′ c. by-free n B′ k′ l′ m′ a′ (omega arith)) (suc (length (app (full B) l))) k l m a (omega arith)
+    by-free (suc n) B k l m a b = by-size B (λ B′ k′ l′ m′ a′ c. by-free n B′ k′ l′ m′ a′ (omega arith))
+        (suc (length (app (full B) l))) k l m a (omega arith)
 
   abbrev pub variables : List Item → List ℕ
   variables [] = []
@@ -251,7 +293,13 @@ module _ (ar : ℕ → ℕ) where
   -- two terms: the one most general unifier, or none
   unfoldable pub solve : (s t : List Item) → Terms ar 1 s → Terms ar 1 t → Answer s t (variables (s ++ t))
   solve s t p q = by-free s t (variables (s ++ t)) (suc (free (variables (s ++ t)) [])) [] 1 s t
-      (record { inv = start ar s t p q; lin = λ z i. variables-in (s ++ t) z (in-left z s t i); rin = λ z i. variables-in (s ++ t) z (in-right z s t i); bin = λ x u h. absurd h })
+      (record {
+        inv = start ar s t p q;
+        lin = λ z i. variables-in (s ++ t) z (in-left z s t i);
+        rin = λ z i. variables-in
+            (s ++ t) z (in-right z s t i);
+        bin = λ x u h. absurd h;
+      })
       (omega arith)
 
   -- l is k terms, or not

@@ -1,6 +1,7 @@
--- Document 01, 'The relations themselves': substitutions, on flat terms. A value is one term by the arities, and a symbol that the
--- signature does not declare has arity 0 there; that gives nothing more to unify or match with: definitions/specs/Declared.antt
--- proves that each relation is the same with values of declared symbols alone, and that a recorded unifier has no others.
+-- SCOPE.md, 'The relations themselves': substitutions, on flat terms. A value is one term by the arities, and a
+-- symbol that the signature does not declare has arity 0 there; that gives nothing more to unify or match with:
+-- definitions/specs/Declared.antt proves that each relation is the same with values of declared symbols alone, and
+-- that a recorded unifier has no others.
 use mathlib.Core.Path.{_≡_, refl, ap}
 use mathlib.Core.Logic.{_⊎_, inl, inr}
 use mathlib.Core.List.{List, [], _∷_, _++_, append-assoc}
@@ -36,59 +37,59 @@ app-app σ τ (sy s ∷ l) = rw (app-app σ τ l)
 app-app σ τ (va x ∷ l) = rw (app-append, app-app σ τ l)
 
 -- x stands in l
-abbrev pub In : ℕ → List Item → Type 0
-In x [] = ⊥
-In x (sy s ∷ l) = In x l
-In x (va y ∷ l) = (x ≡ y) ⊎ In x l
+abbrev pub Occurs : ℕ → List Item → Type 0
+Occurs x [] = ⊥
+Occurs x (sy s ∷ l) = Occurs x l
+Occurs x (va y ∷ l) = (x ≡ y) ⊎ Occurs x l
 
-unfoldable pub in? : (x : ℕ) (l : List Item) → Dec (In x l)
+unfoldable pub in? : (x : ℕ) (l : List Item) → Dec (Occurs x l)
 in? x [] = no (λ h. h)
 in? x (sy s ∷ l) = in? x l
 in? x (va y ∷ l) = go (ℕ-discrete x y) (in? x l)
   where
-    go : Dec (x ≡ y) → Dec (In x l) → Dec ((x ≡ y) ⊎ In x l)
+    go : Dec (x ≡ y) → Dec (Occurs x l) → Dec ((x ≡ y) ⊎ Occurs x l)
     go (yes e) d = yes (inl e)
     go (no f) (yes h) = yes (inr h)
     go (no f) (no g) = no (λ s. elim s [ inl e ↦ f e | inr h ↦ g h ])
 
-pub in-append : (x : ℕ) (l m : List Item) → In x (l ++ m) → In x l ⊎ In x m
+pub in-append : (x : ℕ) (l m : List Item) → Occurs x (l ++ m) → Occurs x l ⊎ Occurs x m
 in-append x [] m h = inr h
 in-append x (sy s ∷ l) m h = in-append x l m h
 in-append x (va y ∷ l) m (inl e) = inl (inl e)
 in-append x (va y ∷ l) m (inr h) = go (in-append x l m h)
   where
-    go : In x l ⊎ In x m → ((x ≡ y) ⊎ In x l) ⊎ In x m
+    go : Occurs x l ⊎ Occurs x m → ((x ≡ y) ⊎ Occurs x l) ⊎ Occurs x m
     go (inl a) = inl (inr a)
     go (inr b) = inr b
 
-pub in-left : (x : ℕ) (l m : List Item) → In x l → In x (l ++ m)
+pub in-left : (x : ℕ) (l m : List Item) → Occurs x l → Occurs x (l ++ m)
 in-left x [] m h = absurd h
 in-left x (sy s ∷ l) m h = in-left x l m h
 in-left x (va y ∷ l) m (inl e) = inl e
 in-left x (va y ∷ l) m (inr h) = inr (in-left x l m h)
 
-pub in-right : (x : ℕ) (l m : List Item) → In x m → In x (l ++ m)
+pub in-right : (x : ℕ) (l m : List Item) → Occurs x m → Occurs x (l ++ m)
 in-right x [] m h = h
 in-right x (sy s ∷ l) m h = in-right x l m h
 in-right x (va y ∷ l) m h = inr (in-right x l m h)
 
 -- substitutions that agree on the variables of l
-pub app-agree : (σ τ : ℕ → List Item) (l : List Item) → ((x : ℕ) → In x l → σ x ≡ τ x) → app σ l ≡ app τ l
+pub app-agree : (σ τ : ℕ → List Item) (l : List Item) → ((x : ℕ) → Occurs x l → σ x ≡ τ x) → app σ l ≡ app τ l
 app-agree σ τ [] h = refl
 app-agree σ τ (sy s ∷ l) h = rw (app-agree σ τ l h)
 app-agree σ τ (va x ∷ l) h = rw (h x (inl refl), app-agree σ τ l (λ y i. h y (inr i)))
 
 -- a variable of app σ l comes from a value
-pub in-app : (σ : ℕ → List Item) (x : ℕ) (l : List Item) → In x (app σ l) → (y : ℕ) × In y l × In x (σ y)
+pub in-app : (σ : ℕ → List Item) (x : ℕ) (l : List Item) → Occurs x (app σ l) → (y : ℕ) × Occurs y l × Occurs x (σ y)
 in-app σ x [] h = absurd h
 in-app σ x (sy s ∷ l) h = in-app σ x l h
 in-app σ x (va y ∷ l) h = go (in-append x (σ y) (app σ l) h) (in-app σ x l)
   where
-    go : In x (σ y) ⊎ In x (app σ l) → (In x (app σ l) → (z : ℕ) × In z l × In x (σ z)) → (z : ℕ) × In z (va y ∷ l) × In x (σ z)
+    go : Occurs x (σ y) ⊎ Occurs x (app σ l) → (Occurs x (app σ l) → (z : ℕ) × Occurs z l × Occurs x (σ z)) → (z : ℕ) × Occurs z (va y ∷ l) × Occurs x (σ z)
     go (inl a) f = (y, inl refl, a)
     go (inr b) f = let r = f b in (r .0, inr (r .1), r .2)
 
-pub in-app-of : (σ : ℕ → List Item) (x y : ℕ) (l : List Item) → In y l → In x (σ y) → In x (app σ l)
+pub in-app-of : (σ : ℕ → List Item) (x y : ℕ) (l : List Item) → Occurs y l → Occurs x (σ y) → Occurs x (app σ l)
 in-app-of σ x y [] i h = absurd i
 in-app-of σ x y (sy s ∷ l) i h = in-app-of σ x y l i h
 in-app-of σ x y (va z ∷ l) (inl e) h = in-left x (σ z) (app σ l) (rw e at h)
@@ -121,12 +122,12 @@ module _ (ar : ℕ → ℕ) where
   app-length σ w (va x ∷ l) = let h = app-length σ w l in let g = term-length 1 (σ x) (w x) in simp length-append (omega arith)
 
   -- the value of x stands in app σ l, with at least one item for each other item of l
-  pub in-length : (σ : ℕ → List Item) → Sub σ → (x : ℕ) (l : List Item) → In x l → length (σ x) + length l ≤ length (app σ l) + 1
+  pub in-length : (σ : ℕ → List Item) → Sub σ → (x : ℕ) (l : List Item) → Occurs x l → length (σ x) + length l ≤ length (app σ l) + 1
   in-length σ w x [] i = absurd i
   in-length σ w x (sy s ∷ l) i = let h = in-length σ w x l i in omega arith
   in-length σ w x (va y ∷ l) (inl e) = let h = app-length σ w l in simp (e, length-append) (omega arith)
   in-length σ w x (va y ∷ l) (inr i) = let h = in-length σ w x l i in let g = term-length 1 (σ y) (w y) in simp length-append (omega arith)
 
   -- the occurs check: x in t, and t more than one item: no substitution makes x and t the same
-  pub occurs : (σ : ℕ → List Item) → Sub σ → (x : ℕ) (t : List Item) → In x t → 1 < length t → σ x ≡ app σ t → ⊥
+  pub occurs : (σ : ℕ → List Item) → Sub σ → (x : ℕ) (t : List Item) → Occurs x t → 1 < length t → σ x ≡ app σ t → ⊥
   occurs σ w x t i b e = omega (arith, in-length σ w x t i, ap length e)

@@ -1,4 +1,5 @@
--- Serves document 01, 'The solver's record': unification on flat terms: bindings, the substitution that they make, and the steps.
+-- Serves SCOPE.md, 'The solver's record': unification on flat terms: bindings, the substitution that they make, and
+-- the steps.
 use mathlib.Core.Path.{_≡_, refl, sym, ap, _∙_}
 use mathlib.Core.Logic.{_⊎_, inl, inr, _≢_}
 use mathlib.Core.List.{List, [], _∷_, append-nil}
@@ -6,7 +7,7 @@ use Prim.Native.Nat.{ℕ, _<_}
 use native.Mathlib.Decide.{ℕ-discrete}
 use lib.ListN.{length}
 use Rattle.theory.specs.Flat.{Item, Terms}
-use Rattle.theory.specs.Subst.{vars, app, app-vars, app-app, In, app-agree, Sub, app-terms, occurs}
+use Rattle.theory.specs.Subst.{vars, app, app-vars, app-app, Occurs, app-agree, Sub, app-terms, occurs}
 
 abbrev pub pick : {A B : Type 0} → Dec A → B → B → B
 pick (yes a) u v = u
@@ -33,7 +34,7 @@ one-other x u y h = go (ℕ-discrete x y)
     go (no f) = refl
 
 -- what does not mention x stays
-pub app-one-free : (x : ℕ) (u l : List Item) → ¬ In x l → app (one x u) l ≡ l
+pub app-one-free : (x : ℕ) (u l : List Item) → ¬ Occurs x l → app (one x u) l ≡ l
 app-one-free x u l h = app-agree (one x u) vars l (λ y i. one-other x u y (λ e. h (rw e i))) ∙ app-vars l
 
 infix 20 _:=_
@@ -62,7 +63,7 @@ unbound y ((x := t) ∷ B) u = rw (unbound y B (u .1)) (append-nil _ ∙ one-oth
 -- each binding was made of a variable with no value, that does not stand in its value
 abbrev pub Good : List Bind → Type 0
 Good [] = Unit {0}
-Good ((x := t) ∷ B) = Unbound x B × (¬ In x (app (full B) t)) × Good B
+Good ((x := t) ∷ B) = Unbound x B × (¬ Occurs x (app (full B) t)) × Good B
 
 -- A. σ after the bindings is σ
 -- one binding more: if σ after θ is σ, and σ x is app σ t, then σ after (x := θ t) after θ is σ
@@ -135,5 +136,5 @@ module _ (ar : ℕ → ℕ) where
 
   module _ (σ : ℕ → List Item) (w : Sub ar σ) where
     -- x stands in the value of t under the bindings, and that is not x itself
-    pub circular : (B : List Bind) → Solves σ B → (x : ℕ) (t : List Item) → In x (app (full B) t) → 1 < length (app (full B) t) → σ x ≡ app σ t → ⊥
+    pub circular : (B : List Bind) → Solves σ B → (x : ℕ) (t : List Item) → Occurs x (app (full B) t) → 1 < length (app (full B) t) → σ x ≡ app σ t → ⊥
     circular B s x t i b e = occurs ar σ w x (app (full B) t) i b (rw (absorbs-app σ B s t) e)

@@ -1,4 +1,5 @@
--- Serves document 01, 'The solver's record': the classes of nodes: each node has the number of one of its class, which has its own.
+-- Serves SCOPE.md, 'The solver's record': the classes of nodes: each node has the number of one of its class, which
+-- has its own.
 use mathlib.Core.Path.{_≡_, refl, sym, ap, _∙_}
 use mathlib.Core.Logic.{_⊎_, inl, inr, _≢_}
 use mathlib.Core.Bool.{Bool, true, false}

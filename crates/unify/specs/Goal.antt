@@ -1,5 +1,5 @@
--- Serves document 01, 'The solver's record': the unifier's loop: what is still to be made the same, and the classes of nodes taken
--- for the same.
+-- Serves SCOPE.md, 'The solver's record': the unifier's loop: what is still to be made the same, and the classes of
+-- nodes taken for the same.
 use mathlib.Core.Path.{_≡_, refl, sym, ap, _∙_}
 use mathlib.Core.Logic.{_⊎_, inl, inr}
 use mathlib.Core.List.{List, [], _∷_}
@@ -16,8 +16,8 @@ use Rattle.unify.specs.Prefix.{Same, same-less, same-cons, same-all}
 -- val: the term of a node; s and t: what is to be made the same
 module _ (ar : ℕ → ℕ) (val : ℕ → List Item) (s t : List Item) where
   -- the two sides of a pair of the stack
-  abbrev pub Holds : (ℕ → List Item) → ℕ → Type 0
-  Holds σ e = app σ (val (e / 64)) ≡ app σ (val (e % 64))
+  abbrev pub GoalHolds : (ℕ → List Item) → ℕ → Type 0
+  GoalHolds σ e = app σ (val (e / 64)) ≡ app σ (val (e % 64))
 
   abbrev pub HoldsTo : (ℕ → List Item) → ℕ → ℕ → Type 0
   HoldsTo σ m e = Same m (app σ (val (e / 64))) (app σ (val (e % 64)))
@@ -30,8 +30,10 @@ module _ (ar : ℕ → ℕ) (val : ℕ → List Item) (s t : List Item) where
 
   -- B the bindings, K the stack of n pairs, cls the classes
   pub record Goal (B : List Bind) (K : List ℕ) (n : ℕ) (cls : List ℕ) : Type 0 where
-    pub complete : (σ : ℕ → List Item) → Sub ar σ → app σ s ≡ app σ t → Solves σ B × ((i : ℕ) → i < n → Holds σ (getD K i 0))
-    pub sound : (σ : ℕ → List Item) → Solves σ B → (m : ℕ) → Pend σ K n m → Alike σ cls (suc m) × Same m (app σ s) (app σ t)
+    pub complete : (σ : ℕ → List Item) → Sub ar σ → app σ s ≡ app σ t → Solves σ B
+        × ((i : ℕ) → i < n → GoalHolds σ (getD K i 0))
+    pub sound : (σ : ℕ → List Item) → Solves σ B → (m : ℕ) → Pend σ K n m → Alike σ cls (suc m)
+        × Same m (app σ s) (app σ t)
 
   -- the top pair holds for every solution of the bindings, which may have grown
   module _ (B : List Bind) (K : List ℕ) (n : ℕ) (cls : List ℕ) (g : Goal B K (n + 1) cls) where
@@ -42,8 +44,8 @@ module _ (ar : ℕ → ℕ) (val : ℕ → List Item) (s t : List Item) where
         go (yes e) = rw e h
         go (no f) = p i (omega (arith, f))
 
-    pub settled : (B′ : List Bind) → ((σ : ℕ → List Item) → Sub ar σ → Solves σ B → Holds σ (getD K n 0) → Solves σ B′)
-        → ((σ : ℕ → List Item) → Solves σ B′ → Solves σ B × Holds σ (getD K n 0)) → Goal B′ K n cls
+    pub settled : (B′ : List Bind) → ((σ : ℕ → List Item) → Sub ar σ → Solves σ B → GoalHolds σ (getD K n 0) → Solves σ B′)
+        → ((σ : ℕ → List Item) → Solves σ B′ → Solves σ B × GoalHolds σ (getD K n 0)) → Goal B′ K n cls
     settled B′ f h = record {
       complete = λ σ w e. (let c = g .complete σ w e in (f σ w (c .0) (c .1 n (omega arith)), λ i b. c .1 i (omega arith)));
       sound = λ σ z m p. (let d = h σ z in g .sound σ (d .0) m (pend-more σ m p (ap (take m) (d .1))));
@@ -56,7 +58,7 @@ module _ (ar : ℕ → ℕ) (val : ℕ → List Item) (s t : List Item) where
       top : (σ : ℕ → List Item) → Solves σ B → (m : ℕ) → Same m (app σ (val a)) (app σ (val b)) → HoldsTo σ m (getD K n 0)
       top σ z m e = ap (take m) (ea σ z) ∙ e ∙ ap (take m) (sym (eb σ z))
 
-      top-all : (σ : ℕ → List Item) → Solves σ B → app σ (val a) ≡ app σ (val b) → Holds σ (getD K n 0)
+      top-all : (σ : ℕ → List Item) → Solves σ B → app σ (val a) ≡ app σ (val b) → GoalHolds σ (getD K n 0)
       top-all σ z e = ea σ z ∙ e ∙ sym (eb σ z)
 
       skip-sound : getD cls a 0 ≡ getD cls b 0 → (σ : ℕ → List Item) → Solves σ B → (m : ℕ) → Pend σ K n m → Alike σ cls (suc m) × Same m (app σ s) (app σ t)
@@ -73,7 +75,8 @@ module _ (ar : ℕ → ℕ) (val : ℕ → List Item) (s t : List Item) where
 
       -- the classes of a and b joined, and n′ pairs on the stack
       pub record Joined (cls′ : List ℕ) : Type 0 where
-        pub each : (i : ℕ) → i < 64 → ((getD cls i 0 ≡ getD cls a 0) × (getD cls′ i 0 ≡ getD cls b 0)) ⊎ (getD cls′ i 0 ≡ getD cls i 0)
+        pub each : (i : ℕ) → i < 64
+            → ((getD cls i 0 ≡ getD cls a 0) × (getD cls′ i 0 ≡ getD cls b 0)) ⊎ (getD cls′ i 0 ≡ getD cls i 0)
 
       join-alike : (σ : ℕ → List Item) (m : ℕ) (cls′ : List ℕ) → Joined cls′ → Alike σ cls m → Same m (app σ (val a)) (app σ (val b)) → Alike σ cls′ m
       join-alike σ m cls′ j h e c d q cl dl = go (j .each c cl) (j .each d dl)
@@ -86,7 +89,7 @@ module _ (ar : ℕ → ℕ) (val : ℕ → List Item) (s t : List Item) where
           go (inr x) (inr y) = h c d (sym x ∙ q ∙ y) cl dl
 
       pub merged : (f : ℕ) (u v : List Item) → val a ≡ sy f ∷ u → val b ≡ sy f ∷ v → (cls′ K′ : List ℕ) (n′ : ℕ) → Joined cls′
-          → ((σ : ℕ → List Item) → Sub ar σ → app σ u ≡ app σ v → ((i : ℕ) → i < n → Holds σ (getD K i 0)) → (i : ℕ) → i < n′ → Holds σ (getD K′ i 0))
+          → ((σ : ℕ → List Item) → Sub ar σ → app σ u ≡ app σ v → ((i : ℕ) → i < n → GoalHolds σ (getD K i 0)) → (i : ℕ) → i < n′ → GoalHolds σ (getD K′ i 0))
           → ((σ : ℕ → List Item) (m : ℕ) → Pend σ K′ n′ m → Pend σ K n m × Same m (app σ u) (app σ v))
           → Goal B K′ n′ cls′
       merged f u v pa pb cls′ K′ n′ j pc ps = record {

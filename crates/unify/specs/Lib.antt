@@ -6,11 +6,6 @@ pub mod Push
 pub mod Run
 pub mod Face
 pub mod Sums
-pub mod Bytes
-pub mod Values
-pub mod Record
-pub mod Fields
-pub mod Whole
-pub mod Checked
+pub mod Pool
+pub mod CheckedTerms
 pub mod Arms
-pub mod ReadBack

@@ -1,4 +1,4 @@
--- Serves document 01, 'The solver's record': sets of variables in one word, for the occurs check.
+-- Serves SCOPE.md, 'The solver's record': sets of variables in one word, for the occurs check.
 use Prim.Native.Nat.{ℕ, suc, _+_, _-_, _*_, _/_, _%_, _^_, _<_, max}
 use mathlib.Core.Path.{_≡_, refl, ap, _∙_}
 use mathlib.Core.Logic.{_⊎_, inl, inr, _≢_, _↔_}
@@ -14,7 +14,7 @@ use lib.Dec.{eqb}
 use lib.ListN.{length, getD}
 use borrow.Author.Tests.{eqb-true, eqb-false}
 use Rattle.theory.specs.Flat.{Item, sy, va}
-use Rattle.theory.specs.Subst.{vars, app, In, in-app, in-app-of}
+use Rattle.theory.specs.Subst.{vars, app, Occurs, in-app, in-app-of}
 use Rattle.theory.specs.Unify.{one, one-same, one-other, Bind, _:=_, full, Unbound}
 use Rattle.laws.specs.Choice.{pick}
 use Rattle.unify.specs.Classes.{getD-map}
@@ -78,29 +78,29 @@ maskOf ms acc [] = acc
 maskOf ms acc (sy f ∷ l) = maskOf ms acc l
 maskOf ms acc (va x ∷ l) = maskOf ms (bitOr acc (getD ms x 0)) l
 
-pub on-mask : (ms : List ℕ) (acc z : ℕ) (l : List Item) → On z (maskOf ms acc l) ↔ (On z acc ⊎ ((y : ℕ) × In y l × On z (getD ms y 0)))
+pub on-mask : (ms : List ℕ) (acc z : ℕ) (l : List Item) → On z (maskOf ms acc l) ↔ (On z acc ⊎ ((y : ℕ) × Occurs y l × On z (getD ms y 0)))
 unfolding maskOf
 on-mask ms acc z [] = ((λ h. inl h), λ h. go h)
   where
-    go : On z acc ⊎ ((y : ℕ) × In y [] × On z (getD ms y 0)) → On z acc
+    go : On z acc ⊎ ((y : ℕ) × Occurs y [] × On z (getD ms y 0)) → On z acc
     go (inl h) = h
     go (inr h) = absurd (h .1)
 on-mask ms acc z (sy f ∷ l) = on-mask ms acc z l
 on-mask ms acc z (va x ∷ l) = let ih = on-mask ms (bitOr acc (getD ms x 0)) z l in ((λ h. to (ih .0 h)), λ h. ih .1 (from h))
   where
-    to : On z (bitOr acc (getD ms x 0)) ⊎ ((y : ℕ) × In y l × On z (getD ms y 0)) → On z acc ⊎ ((y : ℕ) × In y (va x ∷ l) × On z (getD ms y 0))
+    to : On z (bitOr acc (getD ms x 0)) ⊎ ((y : ℕ) × Occurs y l × On z (getD ms y 0)) → On z acc ⊎ ((y : ℕ) × Occurs y (va x ∷ l) × On z (getD ms y 0))
     to (inl h) = go (on-or z acc (getD ms x 0) .0 h)
       where
-        go : On z acc ⊎ On z (getD ms x 0) → On z acc ⊎ ((y : ℕ) × In y (va x ∷ l) × On z (getD ms y 0))
+        go : On z acc ⊎ On z (getD ms x 0) → On z acc ⊎ ((y : ℕ) × Occurs y (va x ∷ l) × On z (getD ms y 0))
         go (inl k) = inl k
         go (inr k) = inr (x, inl refl, k)
     to (inr h) = inr (h .0, inr (h .1), h .2)
 
-    from : On z acc ⊎ ((y : ℕ) × In y (va x ∷ l) × On z (getD ms y 0)) → On z (bitOr acc (getD ms x 0)) ⊎ ((y : ℕ) × In y l × On z (getD ms y 0))
+    from : On z acc ⊎ ((y : ℕ) × Occurs y (va x ∷ l) × On z (getD ms y 0)) → On z (bitOr acc (getD ms x 0)) ⊎ ((y : ℕ) × Occurs y l × On z (getD ms y 0))
     from (inl h) = inl (on-or z acc (getD ms x 0) .1 (inl h))
     from (inr h) = go (h .0) (h .1) (h .2)
       where
-        go : (y : ℕ) → (y ≡ x) ⊎ In y l → On z (getD ms y 0) → On z (bitOr acc (getD ms x 0)) ⊎ ((y : ℕ) × In y l × On z (getD ms y 0))
+        go : (y : ℕ) → (y ≡ x) ⊎ Occurs y l → On z (getD ms y 0) → On z (bitOr acc (getD ms x 0)) ⊎ ((y : ℕ) × Occurs y l × On z (getD ms y 0))
         go y (inl e) k = inl (on-or z acc (getD ms x 0) .1 (inr (rw e at k)))
         go y (inr i) k = inr (y, i, k)
 
@@ -128,38 +128,38 @@ on-spread x m w z = go (eqb (bit w x) 1) refl
         from (inl k) = k
         from (inr k) = absurd (eqb-false (bit w x) 1 e (k .0))
 
-in-one : (x z : ℕ) (v w : List Item) → x ≢ z → In z (app (one x v) w) ↔ (In z w ⊎ (In x w × In z v))
+in-one : (x z : ℕ) (v w : List Item) → x ≢ z → Occurs z (app (one x v) w) ↔ (Occurs z w ⊎ (Occurs x w × Occurs z v))
 in-one x z v w n = ((λ h. let r = in-app (one x v) z w h in to (r .0) (r .1) (r .2) (ℕ-discrete x (r .0))), from)
   where
-    is : (y : ℕ) → In z (vars y) → z ≡ y
+    is : (y : ℕ) → Occurs z (vars y) → z ≡ y
     is y (inl e) = e
 
-    to : (y : ℕ) → In y w → In z (one x v y) → Dec (x ≡ y) → In z w ⊎ (In x w × In z v)
+    to : (y : ℕ) → Occurs y w → Occurs z (one x v y) → Dec (x ≡ y) → Occurs z w ⊎ (Occurs x w × Occurs z v)
     to y i j (yes e) = inr (rw e i, rw (one-same x v) at (rw (← e) at j))
     to y i j (no f) = inl (let k = is y (rw (one-other x v y f) at j) in rw k i)
 
-    from : In z w ⊎ (In x w × In z v) → In z (app (one x v) w)
+    from : Occurs z w ⊎ (Occurs x w × Occurs z v) → Occurs z (app (one x v) w)
     from (inl i) = in-app-of (one x v) z z w i (rw (one-other x v z n) (inl refl))
     from (inr i) = in-app-of (one x v) z x w (i .0) (rw (one-same x v) (i .1))
 
 -- the set of each variable: the variables with no binding in its value
 abbrev pub Sets : List Bind → List ℕ → Type 0
-Sets B ms = (y z : ℕ) → y < 64 → Unbound z B → On z (getD ms y 0) ↔ In z (full B y)
+Sets B ms = (y z : ℕ) → y < 64 → Unbound z B → On z (getD ms y 0) ↔ Occurs z (full B y)
 
 pub sets-start : (ms : List ℕ) → ((y : ℕ) → y < 64 → getD ms y 0 ≡ 2 ^ y) → Sets [] ms
 sets-start ms h y z b n = ((λ o. inl (on-one z y .0 (rw (h y b) at o))), λ i. rw (h y b) (on-one z y .1 (is i)))
   where
-    is : In z (vars y) → z ≡ y
+    is : Occurs z (vars y) → z ≡ y
     is (inl e) = e
 
 abbrev pub Named : List Item → Type 0
-Named l = (y : ℕ) → In y l → y < 64
+Named l = (y : ℕ) → Occurs y l → y < 64
 
 -- the set of a term
-pub sets-term : (B : List Bind) (ms : List ℕ) → Sets B ms → (l : List Item) → Named l → (z : ℕ) → Unbound z B → On z (maskOf ms 0 l) ↔ In z (app (full B) l)
+pub sets-term : (B : List Bind) (ms : List ℕ) → Sets B ms → (l : List Item) → Named l → (z : ℕ) → Unbound z B → On z (maskOf ms 0 l) ↔ Occurs z (app (full B) l)
 sets-term B ms s l nm z n = ((λ o. to (on-mask ms 0 z l .0 o)), λ i. let r = in-app (full B) z l i in on-mask ms 0 z l .1 (inr (r .0, r .1, s (r .0) z (nm (r .0) (r .1)) n .1 (r .2))))
   where
-    to : On z 0 ⊎ ((y : ℕ) × In y l × On z (getD ms y 0)) → In z (app (full B) l)
+    to : On z 0 ⊎ ((y : ℕ) × Occurs y l × On z (getD ms y 0)) → Occurs z (app (full B) l)
     to (inl h) = absurd (on-none z h)
     to (inr h) = in-app-of (full B) z (h .0) l (h .1) (s (h .0) z (nm (h .0) (h .1)) n .0 (h .2))
 
@@ -169,10 +169,10 @@ sets-bind B ms e s x u nx nm y z b n = rw (getD-map (spread x (maskOf ms 0 u)) m
   (λ i. on-spread x (maskOf ms 0 u) (getD ms y 0) z .1 (from (in-one x z (app (full B) u) (full B y) (n .0) .0 i))),
 )
   where
-    to : On z (getD ms y 0) ⊎ (On x (getD ms y 0) × On z (maskOf ms 0 u)) → In z (full B y) ⊎ (In x (full B y) × In z (app (full B) u))
+    to : On z (getD ms y 0) ⊎ (On x (getD ms y 0) × On z (maskOf ms 0 u)) → Occurs z (full B y) ⊎ (Occurs x (full B y) × Occurs z (app (full B) u))
     to (inl o) = inl (s y z b (n .1) .0 o)
     to (inr o) = inr (s y x b nx .0 (o .0), sets-term B ms s u nm z (n .1) .0 (o .1))
 
-    from : In z (full B y) ⊎ (In x (full B y) × In z (app (full B) u)) → On z (getD ms y 0) ⊎ (On x (getD ms y 0) × On z (maskOf ms 0 u))
+    from : Occurs z (full B y) ⊎ (Occurs x (full B y) × Occurs z (app (full B) u)) → On z (getD ms y 0) ⊎ (On x (getD ms y 0) × On z (maskOf ms 0 u))
     from (inl o) = inl (s y z b (n .1) .1 o)
     from (inr o) = inr (s y x b nx .1 (o .0), sets-term B ms s u nm z (n .1) .1 (o .1))

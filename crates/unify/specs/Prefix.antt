@@ -1,4 +1,4 @@
--- Serves document 01, 'The solver's record': lists that agree in their first n items.
+-- Serves SCOPE.md, 'The solver's record': lists that agree in their first n items.
 use mathlib.Core.Path.{_≡_, refl, sym, ap, _∙_}
 use mathlib.Core.List.{List, [], _∷_, _++_}
 use Prim.Native.Nat.{ℕ, zero, suc, _+_, _≤_}

@@ -1,4 +1,4 @@
--- Serves document 01, 'The solver's record': pairs of nodes on a stack, and the pairs of the arguments of two nodes.
+-- Serves SCOPE.md, 'The solver's record': pairs of nodes on a stack, and the pairs of the arguments of two nodes.
 use mathlib.Core.Path.{_≡_, refl, sym, ap, _∙_}
 use mathlib.Core.Logic.{_≢_}
 use mathlib.Core.List.{List, [], _++_}
@@ -11,7 +11,7 @@ use Rattle.theory.specs.Flat.{Item, readable}
 use Rattle.theory.specs.Subst.{app, app-append, Sub, app-terms}
 use Rattle.theory.specs.Nodes.{args, args-more, val, Next, Begins, begins-length, begins-next, begins-term}
 use Rattle.unify.specs.Prefix.{Same, same-append}
-use Rattle.unify.specs.Goal.{Holds, HoldsTo}
+use Rattle.unify.specs.Goal.{GoalHolds, HoldsTo}
 
 module _ (ar : ℕ → ℕ) where
   -- P: the items
@@ -20,7 +20,8 @@ module _ (ar : ℕ → ℕ) where
     abbrev pub Inside : ℕ → Type 0
     Inside e = (e / 64 < length P) × (e % 64 < length P)
 
-    -- of a pairs of arguments, from p and q on, those past the first i are on the stack above n, and l and r begin the others
+    -- of a pairs of arguments, from p and q on, those past the first i are on the stack above n, and l and r begin
+    -- the others
     pub record Pushed (K₀ K : List ℕ) (n a p q i l r : ℕ) : Type 0 where
       pub many : length K ≡ length K₀
       pub low : (x : ℕ) → x < n → getD K x 0 ≡ getD K₀ x 0
@@ -29,10 +30,13 @@ module _ (ar : ℕ → ℕ) where
       pub right : Begins ar P i r
       pub ll : l ≤ length P
       pub rl : r ≤ length P
-      pub sound : (σ : ℕ → List Item) (m : ℕ) → ((x : ℕ) → i ≤ x → x < a → HoldsTo ar (val ar P) [] [] σ m (getD K (n + x) 0))
-          → Same m (app σ (args ar P i l)) (app σ (args ar P i r)) → Same m (app σ (args ar P a p)) (app σ (args ar P a q))
+      pub sound : (σ : ℕ → List Item) (m : ℕ)
+          → ((x : ℕ) → i ≤ x → x < a → HoldsTo ar (val ar P) [] [] σ m (getD K (n + x) 0))
+          → Same m (app σ (args ar P i l)) (app σ (args ar P i r))
+          → Same m (app σ (args ar P a p)) (app σ (args ar P a q))
       pub complete : (σ : ℕ → List Item) → Sub ar σ → app σ (args ar P a p) ≡ app σ (args ar P a q)
-          → (app σ (args ar P i l) ≡ app σ (args ar P i r)) × ((x : ℕ) → i ≤ x → x < a → Holds ar (val ar P) [] [] σ (getD K (n + x) 0))
+          → (app σ (args ar P i l) ≡ app σ (args ar P i r))
+          × ((x : ℕ) → i ≤ x → x < a → GoalHolds ar (val ar P) [] [] σ (getD K (n + x) 0))
 
     pub push-none : (K : List ℕ) (n a p q : ℕ) → Begins ar P a p → Begins ar P a q → p ≤ length P → q ≤ length P → Pushed K K n a p q a p q
     push-none K n a p q h k pl ql = record {
@@ -98,7 +102,7 @@ module _ (ar : ℕ → ℕ) where
             let k = h .complete σ w d in
             let t = readable ar 1 (app σ (val ar P l)) (app σ (val ar P r)) (app σ (args ar P i l′)) (app σ (args ar P i r′))
             (app-terms ar σ w 1 (val ar P l) (begins-term ar P 1 l one-l)) (app-terms ar σ w 1 (val ar P r) (begins-term ar P 1 r one-r)) (sym (split-l σ) ∙ k .0 ∙ split-r σ) in
-            (t .1, at (Holds ar (val ar P) [] [] σ) (rw (el, er) (t .0)) (k .1)));
+            (t .1, at (GoalHolds ar (val ar P) [] [] σ) (rw (el, er) (t .0)) (k .1)));
       }
         where
           pair : (σ : ℕ → List Item) (m : ℕ) → ((x : ℕ) → i ≤ x → x < a → HoldsTo ar (val ar P) [] [] σ m (getD (set K (n + i) e) (n + x) 0)) → Same m (app σ (val ar P l)) (app σ (val ar P r))

@@ -1,4 +1,4 @@
--- Serves document 01, 'The solver's record': the unifier's state as the code holds it, each step, and the ends.
+-- Serves SCOPE.md, 'The solver's record': the unifier's state as the code holds it, each step, and the ends.
 use mathlib.Core.Path.{_≡_, refl, sym, ap, _∙_}
 use mathlib.Core.Logic.{_⊎_, inl, inr, _≢_, _↔_}
 use mathlib.Core.List.{List, [], _∷_, append-nil, map}
@@ -9,16 +9,18 @@ use native.Mathlib.Omega.{arith}
 use lib.ListN.{length, getD, drop, set, length-set, length-map}
 use lib.Seq.{getD-set-same, getD-set-other}
 use Rattle.theory.specs.Flat.{Item, sy, va, Terms}
-use Rattle.theory.specs.Subst.{vars, app, In, Sub, app-terms, in-left}
+use Rattle.theory.specs.Subst.{vars, app, Occurs, Sub, app-terms, in-left}
 use Rattle.theory.specs.Unify.{Bind, _:=_, full, Solves, Good, Values, full-sub, Unbound, unbound, circular, Has, solves-has}
 use Rattle.theory.specs.Canon.{Least, Mgu, least-step}
 use Rattle.theory.specs.Cut.{first, rest, first-rest}
-use Rattle.theory.specs.Items.{item16, items16, arity, code-sym, code-var}
-use Rattle.unify.specs.Goal.{Holds, Goal, settled, skipped, merged, begin, finished}
+use Rattle.theory.specs.Items.{item16, items16, code-sym, code-var}
+use Rattle.unify.specs.Goal.{GoalHolds, Goal, settled, skipped, merged, begin, finished}
 use Rattle.unify.specs.Classes.{Classes, classes-less, classes-start, join-each, join-classes, swap}
 use Rattle.unify.specs.Masks.{On, maskOf, spread, Sets, Named, sets-term, sets-bind, sets-start}
 use Rattle.theory.specs.Nodes.{args, args-none, val, val-sym, val-var, begins-at, begins-term}
 use Rattle.unify.specs.Push.{Inside, Pushed}
+use Rattle.laws.specs.Sizes.{variableBase}
+use Rattle.terms.specs.Terms.{arity}
 
 -- terms one after another, as numbers
 pub record Given (sig pool : List ℕ) : Type 0 where
@@ -26,13 +28,14 @@ pub record Given (sig pool : List ℕ) : Type 0 where
   pub terms : Terms (arity sig) count (items16 pool)
   pub short : length pool ≤ 64
   pub named : (p : ℕ) → p < length pool → getD pool p 0 < 32832
-  pub arities : (s : ℕ) → getD sig s 0 ≤ 8
+  pub arities : (s : ℕ) → arity sig s ≤ 8
 
--- the table of bindings: 0, or one more than the node that the variable is bound to; a variable leads to a symbol or a smaller variable
+-- the table of bindings: 0, or one more than the node that the variable is bound to; a variable leads to a symbol or
+-- a smaller variable
 pub record Shape (tab pool : List ℕ) : Type 0 where
   pub many : length tab ≡ 64
   pub inside : (y : ℕ) → getD tab y 0 ≤ length pool
-  pub down : (x p : ℕ) → getD tab x 0 ≡ suc p → getD pool p 0 < 32768 + x
+  pub down : (x p : ℕ) → getD tab x 0 ≡ suc p → getD pool p 0 < variableBase + x
 
 -- the term of a node
 abbrev pub term : List ℕ → List ℕ → ℕ → List Item
@@ -48,38 +51,37 @@ Tab sig pool tab B = (y : ℕ) → y < 64 → Entry sig pool B y (getD tab y 0)
 -- r is where bindings lead from p
 pub record Led (tab pool : List ℕ) (p r : ℕ) : Type 0 where
   pub low : r < length pool
-  pub same : (sig : List ℕ) (B : List Bind) → Tab sig pool tab B → (σ : ℕ → List Item) → Solves σ B → app σ (term sig pool p) ≡ app σ (term sig pool r)
-  pub stops : 32768 ≤ getD pool r 0 → getD tab (getD pool r 0 - 32768) 0 ≡ 0
+  pub same : (sig : List ℕ) (B : List Bind) → Tab sig pool tab B → (σ : ℕ → List Item) → Solves σ B
+      → app σ (term sig pool p) ≡ app σ (term sig pool r)
+  pub stops : variableBase ≤ getD pool r 0 → getD tab (getD pool r 0 - variableBase) 0 ≡ 0
 
 length-items : (pool : List ℕ) → length (items16 pool) ≡ length pool
 length-items pool = length-map pool item16
 
-pub term-var : (sig pool : List ℕ) (p : ℕ) → p < length pool → 32768 ≤ getD pool p 0 → term sig pool p ≡ vars (getD pool p 0 - 32768)
-term-var sig pool p b h = val-var (arity sig) (items16 pool) p (getD pool p 0 - 32768) (omega (arith, length-items pool)) (code-var pool p h)
+pub term-var : (sig pool : List ℕ) (p : ℕ) → p < length pool → variableBase ≤ getD pool p 0 → term sig pool p ≡ vars (getD pool p 0 - variableBase)
+term-var sig pool p b h = val-var (arity sig) (items16 pool) p (getD pool p 0 - variableBase) (omega (arith, length-items pool)) (code-var pool p h)
 
-pub term-sym : (sig pool : List ℕ) (p : ℕ) → p < length pool → getD pool p 0 < 32768
-    → term sig pool p ≡ sy (getD pool p 0) ∷ args (arity sig) (items16 pool) (getD sig (getD pool p 0) 0) (p + 1)
+pub term-sym : (sig pool : List ℕ) (p : ℕ) → p < length pool → getD pool p 0 < variableBase
+    → term sig pool p ≡ sy (getD pool p 0) ∷ args (arity sig) (items16 pool) (arity sig (getD pool p 0)) (p + 1)
 term-sym sig pool p b h = val-sym (arity sig) (items16 pool) p (getD pool p 0) (omega (arith, length-items pool)) (code-sym pool p h)
 
 app-var : (σ : ℕ → List Item) (x : ℕ) → app σ (vars x) ≡ σ x
 app-var σ x = append-nil (σ x)
 
 module _ (tab pool : List ℕ) (p : ℕ) where
-  pub led-here : p < length pool → (32768 ≤ getD pool p 0 → getD tab (getD pool p 0 - 32768) 0 ≡ 0) → Led tab pool p p
-  led-here b h = record { low = b; same = λ sig B t σ s. refl; stops = h }
-
   -- one binding followed
-  follow : (sig : List ℕ) (r e : ℕ) → r < length pool → 32768 ≤ getD pool r 0 → getD pool r 0 < 32832 → getD tab (getD pool r 0 - 32768) 0 ≡ suc e
+  follow : (sig : List ℕ) (r e : ℕ) → r < length pool → variableBase ≤ getD pool r 0 → getD pool r 0 < 32832 → getD tab (getD pool r 0 - variableBase) 0 ≡ suc e
       → (B : List Bind) → Tab sig pool tab B → (σ : ℕ → List Item) → Solves σ B → app σ (term sig pool r) ≡ app σ (term sig pool e)
   follow sig r e b v n h B t σ s =
-      let x = getD pool r 0 - 32768 in
+      let x = getD pool r 0 - variableBase in
       let k : Has x (term sig pool e) B = rw h at (t x (omega arith)) in
       ap (app σ) (term-var sig pool r b v) ∙ app-var σ x ∙ solves-has σ x (term sig pool e) B k s
 
   abbrev pub Way : ℕ → Type 0
-  Way r = (sig : List ℕ) (B : List Bind) → Tab sig pool tab B → (σ : ℕ → List Item) → Solves σ B → app σ (term sig pool p) ≡ app σ (term sig pool r)
+  Way r = (sig : List ℕ) (B : List Bind) → Tab sig pool tab B → (σ : ℕ → List Item) → Solves σ B
+      → app σ (term sig pool p) ≡ app σ (term sig pool r)
 
-  pub way-more : (r e : ℕ) → r < length pool → 32768 ≤ getD pool r 0 → getD pool r 0 < 32832 → getD tab (getD pool r 0 - 32768) 0 ≡ suc e → Way r → Way e
+  pub way-more : (r e : ℕ) → r < length pool → variableBase ≤ getD pool r 0 → getD pool r 0 < 32832 → getD tab (getD pool r 0 - variableBase) 0 ≡ suc e → Way r → Way e
   way-more r e b v n h w sig B t σ s = w sig B t σ s ∙ follow sig r e b v n h B t σ s
 
 -- variables with no binding
@@ -118,17 +120,17 @@ module _ (sig pool : List ℕ) (G : Given sig pool) where
 
   named-list : (l : List ℕ) → ((p : ℕ) → p < length l → getD l p 0 < 32832) → Named (items16 l)
   named-list [] h y i = absurd i
-  named-list (c ∷ l) h y i = go (decLe 32768 c) i (named-list l (λ p b. h (suc p) (omega arith)))
+  named-list (c ∷ l) h y i = go (decLe variableBase c) i (named-list l (λ p b. h (suc p) (omega arith)))
     where
-      go : Dec (32768 ≤ c) → In y (item16 c ∷ items16 l) → Named (items16 l) → y < 64
+      go : Dec (variableBase ≤ c) → Occurs y (item16 c ∷ items16 l) → Named (items16 l) → y < 64
       go (yes v) j ih = at (rw (code-var (c ∷ []) 0 v) at j)
         where
-          at : (y ≡ c - 32768) ⊎ In y (items16 l) → y < 64
+          at : (y ≡ c - variableBase) ⊎ Occurs y (items16 l) → y < 64
           at (inl e) = omega (arith, h 0 (omega arith))
           at (inr k) = ih y k
       go (no v) j ih = ih y (rw (code-sym (c ∷ []) 0 (omega arith)) at j)
 
-  in-drop : (y p : ℕ) (l : List Item) → In y (drop p l) → In y l
+  in-drop : (y p : ℕ) (l : List Item) → Occurs y (drop p l) → Occurs y l
   in-drop y zero l i = i
   in-drop y (suc p) [] i = i
   in-drop y (suc p) (sy f ∷ l) i = in-drop y p l i
@@ -140,7 +142,7 @@ module _ (sig pool : List ℕ) (G : Given sig pool) where
 
   -- a binding of x to the node u
   module _ (tab ms : List ℕ) (B : List Bind) (h : Held sig pool tab ms B) (S : Shape tab pool) (x u : ℕ) (xl : x < 64) (free : getD tab x 0 ≡ 0)
-      (ul : u < length pool) (less : getD pool u 0 < 32768 + x) (ends : 32768 ≤ getD pool u 0 → getD tab (getD pool u 0 - 32768) 0 ≡ 0) where
+      (ul : u < length pool) (less : getD pool u 0 < variableBase + x) (ends : variableBase ≤ getD pool u 0 → getD tab (getD pool u 0 - variableBase) 0 ≡ 0) where
     unbound-x : Unbound x B
     unbound-x = rw free at (h .table x xl)
 
@@ -148,17 +150,17 @@ module _ (sig pool : List ℕ) (G : Given sig pool) where
     sub : Sub (arity sig) (full B)
     sub = full-sub (arity sig) B (h .values)
 
-    var-stays : 32768 ≤ getD pool u 0 → app (full B) (term sig pool u) ≡ vars (getD pool u 0 - 32768)
+    var-stays : variableBase ≤ getD pool u 0 → app (full B) (term sig pool u) ≡ vars (getD pool u 0 - variableBase)
     var-stays v = ap (app (full B)) (term-var sig pool u ul v) ∙ app-var (full B) _
-        ∙ unbound (getD pool u 0 - 32768) B (rw (ends v) at (h .table (getD pool u 0 - 32768) (omega (arith, G .named u ul))))
+        ∙ unbound (getD pool u 0 - variableBase) B (rw (ends v) at (h .table (getD pool u 0 - variableBase) (omega (arith, G .named u ul))))
 
     smaller : (y : ℕ) → app (full B) (term sig pool u) ≡ vars y → y ≤ x
-    smaller y e = go (decLe 32768 (getD pool u 0))
+    smaller y e = go (decLe variableBase (getD pool u 0))
       where
-        go : Dec (32768 ≤ getD pool u 0) → y ≤ x
-        go (yes v) = let k = var-stays v in let z : getD pool u 0 - 32768 ≡ y = cc in omega arith
+        go : Dec (variableBase ≤ getD pool u 0) → y ≤ x
+        go (yes v) = let k = var-stays v in let z : getD pool u 0 - variableBase ≡ y = cc in omega arith
         go (no v) = let k = term-sym sig pool u ul (omega arith) in
-            let q : app (full B) (sy (getD pool u 0) ∷ args (arity sig) (items16 pool) (getD sig (getD pool u 0) 0) (u + 1)) ≡ vars y = sym (ap (app (full B)) k) ∙ e in
+            let q : app (full B) (sy (getD pool u 0) ∷ args (arity sig) (items16 pool) (arity sig (getD pool u 0)) (u + 1)) ≡ vars y = sym (ap (app (full B)) k) ∙ e in
             let c : _≡_ {A = ℕ} 0 1 = cc in absurd (omega arith)
 
     entry-old : (v : List Item) (y e : ℕ) → x ≢ y → Entry sig pool B y e → Entry sig pool ((x := v) ∷ B) y e
@@ -191,32 +193,32 @@ module _ (sig pool : List ℕ) (G : Given sig pool) where
         in₁ y (yes e) = rw (← e, getD-set-same tab x (u + 1) 0 (omega (arith, S .many))) (omega arith)
         in₁ y (no n) = rw (getD-set-other tab x y (u + 1) 0 (λ e. n (sym e))) (S .inside y)
 
-        down₁ : (y p : ℕ) → Dec (x ≡ y) → getD (set tab x (u + 1)) y 0 ≡ suc p → getD pool p 0 < 32768 + y
+        down₁ : (y p : ℕ) → Dec (x ≡ y) → getD (set tab x (u + 1)) y 0 ≡ suc p → getD pool p 0 < variableBase + y
         down₁ y p (yes e) q = let k : u ≡ p = omega (arith, rw (← e, getD-set-same tab x (u + 1) 0 (omega (arith, S .many))) at q) in rw (← k, ← e) less
         down₁ y p (no n) q = S .down y p (rw (getD-set-other tab x y (u + 1) 0 (λ e. n (sym e))) at q)
 
     -- the occurs check: x in u leaves no solution
     pub no-solution : On x (maskOf ms 0 (term sig pool u)) → (σ : ℕ → List Item) → Sub (arity sig) σ → Solves σ B → σ x ≡ app σ (term sig pool u) → ⊥
-    no-solution o σ w s e = go (decLe 32768 (getD pool u 0))
+    no-solution o σ w s e = go (decLe variableBase (getD pool u 0))
       where
-        i : In x (app (full B) (term sig pool u))
+        i : Occurs x (app (full B) (term sig pool u))
         i = sets-term B ms (h .sets) (term sig pool u) (node-named u) x unbound-x .0 o
 
-        is : (y : ℕ) → In x (vars y) → x ≡ y
+        is : (y : ℕ) → Occurs x (vars y) → x ≡ y
         is y (inl q) = q
 
-        long : (f : ℕ) (l : List Item) → In x (app (full B) (sy f ∷ l)) → 1 < length (app (full B) (sy f ∷ l))
+        long : (f : ℕ) (l : List Item) → Occurs x (app (full B) (sy f ∷ l)) → 1 < length (app (full B) (sy f ∷ l))
         long f l j = in-length (app (full B) l) j
           where
-            in-length : (m : List Item) → In x m → 1 < suc (length m)
+            in-length : (m : List Item) → Occurs x m → 1 < suc (length m)
             in-length [] k = absurd k
             in-length (a ∷ m) k = omega arith
 
-        go : Dec (32768 ≤ getD pool u 0) → ⊥
-        go (yes v) = let k = is (getD pool u 0 - 32768) (rw (var-stays v) at i) in omega arith
+        go : Dec (variableBase ≤ getD pool u 0) → ⊥
+        go (yes v) = let k = is (getD pool u 0 - variableBase) (rw (var-stays v) at i) in omega arith
         go (no v) =
             let k = term-sym sig pool u ul (omega arith) in
-            circular (arity sig) σ w B s x (term sig pool u) i (rw k (long (getD pool u 0) (args (arity sig) (items16 pool) (getD sig (getD pool u 0) 0) (u + 1)) (rw k at i))) e
+            circular (arity sig) σ w B s x (term sig pool u) i (rw k (long (getD pool u 0) (args (arity sig) (items16 pool) (arity sig (getD pool u 0)) (u + 1)) (rw k at i))) e
 
 -- no substitution makes the two the same
 abbrev pub None : List ℕ → List ℕ → ℕ → Type 0
@@ -281,7 +283,7 @@ module _ (sig pool : List ℕ) (G : Given sig pool) (root : ℕ) where
     solve-r σ s = dr .same sig (v .binds) (v .held .table) σ s
 
     Top : (ℕ → List Item) → Type 0
-    Top σ = Holds (arity sig) (term sig pool) (term sig pool 0) (term sig pool root) σ (getD K n 0)
+    Top σ = GoalHolds (arity sig) (term sig pool) (term sig pool 0) (term sig pool root) σ (getD K n 0)
 
     down : (σ : ℕ → List Item) → Solves σ (v .binds) → Top σ → app σ (term sig pool p) ≡ app σ (term sig pool r)
     unfolding Top
@@ -303,12 +305,12 @@ module _ (sig pool : List ℕ) (G : Given sig pool) (root : ℕ) where
       inside = λ i b. v .inside i (omega arith);
     }
 
-    pub run-clash : getD pool p 0 < 32768 → getD pool r 0 < 32768 → getD pool p 0 ≢ getD pool r 0 → None sig pool root
+    pub run-clash : getD pool p 0 < variableBase → getD pool r 0 < variableBase → getD pool p 0 ≢ getD pool r 0 → None sig pool root
     unfolding Top
     run-clash a b d σ w e =
         let h = v .goal .complete σ w e in
         let k = down σ (h .0) (h .1 n (omega arith)) in
-        let k′ : app σ (sy (getD pool p 0) ∷ args (arity sig) (items16 pool) (getD sig (getD pool p 0) 0) (p + 1)) ≡ app σ (sy (getD pool r 0) ∷ args (arity sig) (items16 pool) (getD sig (getD pool r 0) 0) (r + 1))
+        let k′ : app σ (sy (getD pool p 0) ∷ args (arity sig) (items16 pool) (arity sig (getD pool p 0)) (p + 1)) ≡ app σ (sy (getD pool r 0) ∷ args (arity sig) (items16 pool) (arity sig (getD pool r 0)) (r + 1))
         = ap (app σ) (sym (term-sym sig pool p (dp .low) a)) ∙ k ∙ ap (app σ) (term-sym sig pool r (dr .low) b) in
         d (cc)
 
@@ -324,7 +326,7 @@ module _ (sig pool : List ℕ) (G : Given sig pool) (root : ℕ) where
     }
 
     -- x against u, on either side
-    module _ (x u w : ℕ) (side : ((w ≡ p) × (u ≡ r)) ⊎ ((w ≡ r) × (u ≡ p))) (ex : getD pool w 0 ≡ 32768 + x) (less : getD pool u 0 < 32768 + x) where
+    module _ (x u w : ℕ) (side : ((w ≡ p) × (u ≡ r)) ⊎ ((w ≡ r) × (u ≡ p))) (ex : getD pool w 0 ≡ variableBase + x) (less : getD pool u 0 < variableBase + x) where
       w-low : w < length pool
       w-low = go side
         where
@@ -339,14 +341,14 @@ module _ (sig pool : List ℕ) (G : Given sig pool) (root : ℕ) where
           go (inl h) = omega (arith, h .1, dr .low)
           go (inr h) = omega (arith, h .1, dp .low)
 
-      stop : (z : ℕ) → (z ≡ p) ⊎ (z ≡ r) → 32768 ≤ getD pool z 0 → getD tab (getD pool z 0 - 32768) 0 ≡ 0
+      stop : (z : ℕ) → (z ≡ p) ⊎ (z ≡ r) → variableBase ≤ getD pool z 0 → getD tab (getD pool z 0 - variableBase) 0 ≡ 0
       stop z (inl e) b = rw e (dp .stops (rw e at b))
       stop z (inr e) b = rw e (dr .stops (rw e at b))
 
-      u-stop : 32768 ≤ getD pool u 0 → getD tab (getD pool u 0 - 32768) 0 ≡ 0
+      u-stop : variableBase ≤ getD pool u 0 → getD tab (getD pool u 0 - variableBase) 0 ≡ 0
       u-stop = go side
         where
-          go : ((w ≡ p) × (u ≡ r)) ⊎ ((w ≡ r) × (u ≡ p)) → 32768 ≤ getD pool u 0 → getD tab (getD pool u 0 - 32768) 0 ≡ 0
+          go : ((w ≡ p) × (u ≡ r)) ⊎ ((w ≡ r) × (u ≡ p)) → variableBase ≤ getD pool u 0 → getD tab (getD pool u 0 - variableBase) 0 ≡ 0
           go (inl h) = stop u (inr (h .1))
           go (inr h) = stop u (inl (h .1))
 
@@ -356,7 +358,7 @@ module _ (sig pool : List ℕ) (G : Given sig pool) (root : ℕ) where
       x-free : getD tab x 0 ≡ 0
       x-free = go side
         where
-          is : getD pool w 0 - 32768 ≡ x
+          is : getD pool w 0 - variableBase ≡ x
           is = omega arith
 
           go : ((w ≡ p) × (u ≡ r)) ⊎ ((w ≡ r) × (u ≡ p)) → getD tab x 0 ≡ 0
@@ -364,7 +366,7 @@ module _ (sig pool : List ℕ) (G : Given sig pool) (root : ℕ) where
           go (inr h) = rw is at (stop w (inr (h .0)) (omega arith))
 
       term-w : term sig pool w ≡ vars x
-      term-w = let e : getD pool w 0 - 32768 ≡ x = omega arith in rw e at (term-var sig pool w w-low (omega arith))
+      term-w = let e : getD pool w 0 - variableBase ≡ x = omega arith in rw e at (term-var sig pool w w-low (omega arith))
 
       value : (σ : ℕ → List Item) → Solves σ (v .binds) → Top σ ↔ (σ x ≡ app σ (term sig pool u))
       value σ s = ((λ t. to side (down σ s t)), λ e. up σ s (from side e))
@@ -400,16 +402,16 @@ module _ (sig pool : List ℕ) (G : Given sig pool) (root : ℕ) where
       }
 
     -- one symbol on both sides
-    module _ (a : getD pool p 0 < 32768) (e : getD pool p 0 ≡ getD pool r 0) where
+    module _ (a : getD pool p 0 < variableBase) (e : getD pool p 0 ≡ getD pool r 0) where
       pub run-merge : getD cls p 0 ≢ getD cls r 0 → (K′ : List ℕ) (l l′ : ℕ)
-          → Pushed (arity sig) (items16 pool) K K′ n (getD sig (getD pool p 0) 0) (p + 1) (r + 1) 0 l l′
-          → Run sig pool root K′ (n + getD sig (getD pool p 0) 0) tab ms (map (swap (getD cls p 0) (getD cls r 0)) cls)
+          → Pushed (arity sig) (items16 pool) K K′ n (arity sig (getD pool p 0)) (p + 1) (r + 1) 0 l l′
+          → Run sig pool root K′ (n + arity sig (getD pool p 0)) tab ms (map (swap (getD cls p 0) (getD cls r 0)) cls)
       run-merge d K′ l l′ h = record {
         binds = v .binds;
         held = v .held;
         goal = merged (arity sig) (term sig pool) (term sig pool 0) (term sig pool root) (v .binds) K n cls (v .goal) p r pl rl solve-p solve-r
             (getD pool p 0) u₁ u₂ (term-sym sig pool p (dp .low) a) (rw (← e) at (term-sym sig pool r (dr .low) (omega arith)))
-            (map (swap (getD cls p 0) (getD cls r 0)) cls) K′ (n + getD sig (getD pool p 0) 0)
+            (map (swap (getD cls p 0) (getD cls r 0)) cls) K′ (n + arity sig (getD pool p 0))
             (record { each = λ i b. each i b (join-each (n + 1) cls (v .classes) p r pl rl d i b) })
             (λ σ w q old i b. cpl σ w q old i b (decLe n i))
             (λ σ m f. (
@@ -417,7 +419,7 @@ module _ (sig pool : List ℕ) (G : Given sig pool) (root : ℕ) where
               h .sound σ m (λ x b c. f (n + x) (omega arith)) (rw (args-none (arity sig) (items16 pool) l, args-none (arity sig) (items16 pool) l′) refl),
             ));
         shape = v .shape;
-        classes = join-classes (n + 1) cls (v .classes) p r pl rl d (n + getD sig (getD pool p 0) 0) (omega (arith, G .arities (getD pool p 0)));
+        classes = join-classes (n + 1) cls (v .classes) p r pl rl d (n + arity sig (getD pool p 0)) (omega (arith, G .arities (getD pool p 0)));
         deep = h .many ∙ v .deep;
         inside = λ i b. ins i b (decLe n i);
       }
@@ -429,10 +431,10 @@ module _ (sig pool : List ℕ) (G : Given sig pool) (root : ℕ) where
           rl = omega (arith, G .short, dr .low)
 
           u₁ : List Item
-          u₁ = args (arity sig) (items16 pool) (getD sig (getD pool p 0) 0) (p + 1)
+          u₁ = args (arity sig) (items16 pool) (arity sig (getD pool p 0)) (p + 1)
 
           u₂ : List Item
-          u₂ = args (arity sig) (items16 pool) (getD sig (getD pool p 0) 0) (r + 1)
+          u₂ = args (arity sig) (items16 pool) (arity sig (getD pool p 0)) (r + 1)
 
           each : (i : ℕ) → i < 64 → ((getD cls i 0 ≡ getD cls p 0) × (getD (map (swap (getD cls p 0) (getD cls r 0)) cls) i 0 ≡ getD cls r 0)) ⊎ ((getD cls i 0 ≢ getD cls p 0) × (getD (map (swap (getD cls p 0) (getD cls r 0)) cls) i 0 ≡ getD cls i 0))
               → ((getD cls i 0 ≡ getD cls p 0) × (getD (map (swap (getD cls p 0) (getD cls r 0)) cls) i 0 ≡ getD cls r 0)) ⊎ (getD (map (swap (getD cls p 0) (getD cls r 0)) cls) i 0 ≡ getD cls i 0)
@@ -440,11 +442,11 @@ module _ (sig pool : List ℕ) (G : Given sig pool) (root : ℕ) where
           each i b (inr k) = inr (k .1)
 
           cpl : (σ : ℕ → List Item) → Sub (arity sig) σ → app σ u₁ ≡ app σ u₂
-              → ((i : ℕ) → i < n → Holds (arity sig) (term sig pool) (term sig pool 0) (term sig pool root) σ (getD K i 0))
-              → (i : ℕ) → i < n + getD sig (getD pool p 0) 0 → Dec (n ≤ i) → Holds (arity sig) (term sig pool) (term sig pool 0) (term sig pool root) σ (getD K′ i 0)
+              → ((i : ℕ) → i < n → GoalHolds (arity sig) (term sig pool) (term sig pool 0) (term sig pool root) σ (getD K i 0))
+              → (i : ℕ) → i < n + arity sig (getD pool p 0) → Dec (n ≤ i) → GoalHolds (arity sig) (term sig pool) (term sig pool 0) (term sig pool root) σ (getD K′ i 0)
           cpl σ w q old i b (yes c) = let z : n + (i - n) ≡ i = omega arith in rw z at (h .complete σ w q .1 (i - n) (omega arith) (omega arith))
           cpl σ w q old i b (no c) = rw (h .low i (omega arith)) (old i (omega arith))
 
-          ins : (i : ℕ) → i < n + getD sig (getD pool p 0) 0 → Dec (n ≤ i) → Inside (arity sig) (items16 pool) (getD K′ i 0)
+          ins : (i : ℕ) → i < n + arity sig (getD pool p 0) → Dec (n ≤ i) → Inside (arity sig) (items16 pool) (getD K′ i 0)
           ins i b (yes c) = let z : n + (i - n) ≡ i = omega arith in rw z at (h .inside (i - n) (omega arith) (omega arith))
           ins i b (no c) = rw (h .low i (omega arith)) (v .inside i (omega arith))

@@ -1,4 +1,4 @@
--- Serves document 01, 'The solver's record': the set of the variables of a term, summed in a walk.
+-- Serves SCOPE.md, 'The solver's record': the set of the variables of a term, summed in a walk.
 use mathlib.Core.Path.{_≡_, sym, ap, _∙_}
 use mathlib.Core.Logic.{_≢_}
 use mathlib.Core.List.{List, _∷_}
@@ -10,25 +10,27 @@ use lib.Dec.{ltb}
 use lib.ListN.{length, getD, drop, length-map}
 use Rattle.theory.specs.Flat.{Item}
 use Rattle.theory.specs.Cut.{first}
-use Rattle.theory.specs.Items.{item16, items16, arity}
+use Rattle.theory.specs.Items.{item16, items16}
 use borrow.Author.Tests.{lt-ltb, le-ltb}
 use Rattle.laws.specs.Choice.{pick}
-use Rattle.theory.specs.Walk.{extra, args-turn}
+use Rattle.theory.specs.ItemWalk.{extra, args-turn}
 use Rattle.unify.specs.Masks.{maskOf}
 use Rattle.theory.specs.Nodes.{args, args-none, Begins, begins-at}
 use Rattle.unify.specs.Run.{Given, term}
+use Rattle.laws.specs.Sizes.{variableBase}
+use Rattle.terms.specs.Terms.{arity}
 
 -- the set of the item c
 unfoldable pub setOf : List ℕ → ℕ → ℕ
-setOf ms c = pick (ltb c 32768) 0 (getD ms (c - 32768) 0)
+setOf ms c = pick (ltb c variableBase) 0 (getD ms (c - variableBase) 0)
 
-pub set-sym : (ms : List ℕ) (c : ℕ) → c < 32768 → setOf ms c ≡ 0
+pub set-sym : (ms : List ℕ) (c : ℕ) → c < variableBase → setOf ms c ≡ 0
 unfolding setOf
-set-sym ms c b = rw (lt-ltb c 32768 b)
+set-sym ms c b = rw (lt-ltb c variableBase b)
 
-pub set-var : (ms : List ℕ) (c : ℕ) → 32768 ≤ c → setOf ms c ≡ getD ms (c - 32768) 0
+pub set-var : (ms : List ℕ) (c : ℕ) → variableBase ≤ c → setOf ms c ≡ getD ms (c - variableBase) 0
 unfolding setOf
-set-var ms c b = rw (le-ltb c 32768 b)
+set-var ms c b = rw (le-ltb c variableBase b)
 
 module _ (sig : List ℕ) where
   abbrev ar : ℕ → ℕ
@@ -44,11 +46,11 @@ module _ (sig : List ℕ) where
 
     mask-step : (ms : List ℕ) (m c : ℕ) (l : List Item) → maskOf ms m (item16 c ∷ l) ≡ maskOf ms (bitOr m (setOf ms c)) l
     unfolding maskOf
-    mask-step ms m c l = go (decLe 32768 c)
+    mask-step ms m c l = go (decLe variableBase c)
       where
-        go : Dec (32768 ≤ c) → maskOf ms m (item16 c ∷ l) ≡ maskOf ms (bitOr m (setOf ms c)) l
-        go (yes v) = rw (le-ltb c 32768 v, set-var ms c v)
-        go (no v) = let h : c < 32768 = omega arith in rw (lt-ltb c 32768 h, set-sym ms c h, or-zero-r)
+        go : Dec (variableBase ≤ c) → maskOf ms m (item16 c ∷ l) ≡ maskOf ms (bitOr m (setOf ms c)) l
+        go (yes v) = rw (le-ltb c variableBase v, set-var ms c v)
+        go (no v) = let h : c < variableBase = omega arith in rw (lt-ltb c variableBase h, set-sym ms c h, or-zero-r)
 
     pub sum-turn : (ms : List ℕ) (p o i m : ℕ) → o ≢ 0 → i < length pool → Sum ms p o i m → Sum ms p (o - 1 + extra sig (getD pool i 0)) (i + 1) (bitOr m (setOf ms (getD pool i 0)))
     sum-turn ms p o i m n b h =

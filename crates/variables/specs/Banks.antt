@@ -1,4 +1,4 @@
--- Document 01, 'Term bytes': how far the variables of each side are moved where both sides appear in one written term.
+-- SCOPE.md, 'Term bytes': how far the variables of each side are moved where both sides appear in one written term.
 use Prim.Native.Nat.{ℕ}
 use Rattle.variables.specs.declared.Bank.{Bank}
 use Rattle.variables.specs.declared.Bank.the-variants.{Stored, Question}

@@ -1,4 +1,4 @@
--- Document 01, 'Term bytes': the variable that a written number stands for.
+-- SCOPE.md, 'Term bytes': the variable that a written number stands for.
 use mathlib.Core.Path.{_≡_, ap}
 use native.Mathlib.Omega.{arith}
 use Prim.Native.Nat.{ℕ, _+_, _<_}
@@ -10,9 +10,9 @@ use Rattle.variables.specs.declared.Bank.the-variants as Bank
 use Rattle.variables.specs.Banks.{bankOf}
 
 -- one of 32 on its own side, moved by that side's bank
-abbrev pub Stands : ℕ → Side → Type 0
-Stands w (Stored v) = (v .0 < 32) × (bankOf Bank.Stored + v .0 ≡ w)
-Stands w (Question v) = (v .0 < 32) × (bankOf Bank.Question + v .0 ≡ w)
+abbrev pub StandsFor : ℕ → Side → Type 0
+StandsFor w (Stored v) = (v .0 < 32) × (bankOf Bank.Stored + v .0 ≡ w)
+StandsFor w (Question v) = (v .0 < 32) × (bankOf Bank.Question + v .0 ≡ w)
 
 stored-one : (u v : StoredVariable) → u .0 ≡ v .0 → u ≡ v
 stored-one u v e = ap (λ z. record { 0 = z }) e
@@ -21,7 +21,7 @@ question-one : (u v : QuestionVariable) → u .0 ≡ v .0 → u ≡ v
 question-one u v e = ap (λ z. record { 0 = z }) e
 
 -- a written number stands for one variable
-pub stands-one : (w : ℕ) (a b : Side) → Stands w a → Stands w b → a ≡ b
+pub stands-one : (w : ℕ) (a b : Side) → StandsFor w a → StandsFor w b → a ≡ b
 stands-one w (Stored u) (Stored v) h k = ap (λ z. Stored z) (stored-one u v (omega (arith, h .1, k .1)))
 stands-one w (Stored u) (Question v) h k = absurd (omega (arith, h .0, h .1, k .1))
 stands-one w (Question u) (Stored v) h k = absurd (omega (arith, k .0, k .1, h .1))

@@ -1,7 +1,9 @@
-// The three kinds of variable (document 01, 'Term bytes'). A stored number and a question number meet only as written.
+// The three kinds of variable (SCOPE.md, 'Term bytes'). A stored number and a question number meet only as written.
+use laws::VARIABLE16;
 ghost use mathlib.Core.Path.{_≡_};
 ghost use Prim.Native.Nat.{_+_, _≤_, _<_};
-ghost use Rattle.variables.specs.Sides.{Stands};
+ghost use Rattle.variables.specs.Sides.{StandsFor};
+ghost use Rattle.laws.specs.Sizes.{variableBase, variableEnd};
 
 // A variable of a stored term, 0 to 31.
 pub struct StoredVariable(pub u8);
@@ -27,10 +29,10 @@ pub enum Side {
 impl StoredVariable {
     // The variable of an item of a stored term.
     pub fn of_item(c: u16) -> Self
-        requires { ⌜ (32768 ≤ c) × (c < 32800) ⌝ }
-        ensures { λ r. ⌜ (r .0 < 32) × (32768 + r .0 ≡ c) ⌝ }
+        requires { ⌜ (variableBase ≤ c) × (c < variableEnd) ⌝ }
+        ensures { λ r. ⌜ (r .0 < 32) × (variableBase + r .0 ≡ c) ⌝ }
     {
-        Self((c - 32768) as u8)
+        Self((c - VARIABLE16) as u8)
     }
 
     // As written: the same number.
@@ -45,10 +47,10 @@ impl StoredVariable {
 impl QuestionVariable {
     // The variable of an item of a question.
     pub fn of_item(c: u16) -> Self
-        requires { ⌜ (32768 ≤ c) × (c < 32800) ⌝ }
-        ensures { λ r. ⌜ (r .0 < 32) × (32768 + r .0 ≡ c) ⌝ }
+        requires { ⌜ (variableBase ≤ c) × (c < variableEnd) ⌝ }
+        ensures { λ r. ⌜ (r .0 < 32) × (variableBase + r .0 ≡ c) ⌝ }
     {
-        Self((c - 32768) as u8)
+        Self((c - VARIABLE16) as u8)
     }
 
     // As written: apart from every stored variable.
@@ -63,23 +65,23 @@ impl QuestionVariable {
 impl WrittenVariable {
     // The variable of an item of a written term.
     pub fn of_item(c: u16) -> Self
-        requires { ⌜ (32768 ≤ c) × (c < 32832) ⌝ }
-        ensures { λ r. ⌜ (r .0 < 64) × (32768 + r .0 ≡ c) ⌝ }
+        requires { ⌜ (variableBase ≤ c) × (c < 32832) ⌝ }
+        ensures { λ r. ⌜ (r .0 < 64) × (variableBase + r .0 ≡ c) ⌝ }
     {
-        Self((c - 32768) as u8)
+        Self((c - VARIABLE16) as u8)
     }
 
     // Its item.
     pub fn item(self) -> u16
-        ensures { λ r. ⌜ r ≡ 32768 + self .0 ⌝ }
+        ensures { λ r. ⌜ r ≡ variableBase + self .0 ⌝ }
     {
-        32768 + (self.0 as u16)
+        VARIABLE16 + (self.0 as u16)
     }
 
     // Back to the side that it comes from.
     pub fn side(self) -> Side
         requires { ⌜ self .0 < 64 ⌝ }
-        ensures { λ r. ⌜ Stands (self .0) r ⌝ }
+        ensures { λ r. ⌜ StandsFor (self .0) r ⌝ }
     {
         let w = self.0;
         if w < 32 {

@@ -3,29 +3,30 @@ use mathlib.Core.Path.{_≡_, refl, sym, ap, _∙_}
 use native.Mathlib.Omega.{arith}
 use borrow.Author.Needs.{needs}
 use lib.ListN.{length, getD}
-use Rattle.slots.proofs.Laws.{words-8}
-use Rattle.bank.specs.Bank.{four}
+use Rattle.slots.proofs.SlotLaws.{words-8}
+use Rattle.keysets.specs.KeySets.{four}
 use Rattle.chains.specs.Chains.{find}
 use Rattle.paths.specs.Locate.{find-le}
 use Rattle.candidates.specs.None.{walk-empty}
-use Rattle.candidates.proofs.Laws.{having-is, walk-open, walk-star, walk-plain, walk-stars, Kids, kids-start, kids-again, kids-all}
-use Rattle.walks.specs.Fill.{Sized}
+use Rattle.candidates.proofs.CandidateLaws.{having-is, walk-open, walk-star, walk-plain, walk-stars, Kids, kids-start, kids-again, kids-all}
+use Rattle.termkeys.specs.Fill.{Sized}
 use Prim.Native.Nat.{ℕ, _<_}
 use borrow.Fn.Kinds.{In}
 use borrow.Fn.PlainCycle.{Measures, is, falls, and}
 use Rattle.candidates.proofs.narrow.Reads as narrow
 use Rattle.candidates.proofs.narrow.Kinds as narrow-kinds
 use Rattle.candidates.proofs.+narrow.Lts-narrow as narrow-lts
-use Rattle.bank.proofs.meet.Reads as meet-reads
+use Rattle.keysets.proofs.meet.Reads as meet-reads
 use Rattle.candidates.proofs.star_at.Reads as star-at-reads
 use Rattle.chains.proofs.find.Reads as find-reads
 use Rattle.laws.proofs.wide.Reads as wide-reads
 use Rattle.slots.proofs.SlotSet.is_empty.Reads as is-empty-reads
 use Rattle.slots.proofs.SlotSet.or.Reads as or-reads
-use Rattle.walks.proofs.label_of.Reads as label-of-reads
-use Rattle.walks.proofs.place_below.Reads as place-below-reads
+use Rattle.termkeys.proofs.label_of.Reads as label-of-reads
+use Rattle.termkeys.proofs.place_below.Reads as place-below-reads
 use Rattle.candidates.proofs.+narrow.{statement}
 use Rattle.candidates.proofs.+narrow.Tie.{close}
+use Rattle.laws.specs.Sizes.{keyLimit, variableBase}
 
 abbrev μ-narrow : Measures 8 narrow-kinds.ps ℕ
 μ-narrow κs a = a .1 .1 .1 .1 .1 .1 .1 .1 .1 .1 .1 .0
@@ -40,7 +41,7 @@ abbrev R : ℕ → narrow-lts.Claims
 R t = (is-empty-reads.Asked, is-empty-reads.Learnt, star-at-reads.Asked, star-at-reads.Learnt, label-of-reads.Asked, label-of-reads.Learnt, find-reads.Asked, find-reads.Learnt, meet-reads.Asked, meet-reads.Learnt, wide-reads.Asked, wide-reads.Learnt, place-below-reads.Asked, place-below-reads.Learnt, narrow-below t, narrow.Post, or-reads.Asked, or-reads.Learnt)
 
 abbrev narrow-Inv-loop : narrow-lts.InvT-loop
-narrow-Inv-loop link label s0 s1 s2 s3 items ends rule at place levels within x k deep₀ end child₀ next₀ deep child next = (at < child) × (next ≤ 32768 + child) × (end ≤ length items) × Kids link label (four s0 s1 s2 s3) (rule .open) (rule .stars) items ends at x next₀ (deep₀ .words) child end next (deep .words)
+narrow-Inv-loop link label s0 s1 s2 s3 items ends rule at place levels within x k deep₀ end child₀ next₀ deep child next = (at < child) × (next ≤ variableBase + child) × (end ≤ length items) × Kids link label (four s0 s1 s2 s3) (rule .open) (rule .stars) items ends at x next₀ (deep₀ .words) child end next (deep .words)
 
 abbrev narrow-μ-loop : narrow-lts.MeasureT-loop
 narrow-μ-loop link label s0 s1 s2 s3 items ends rule at place levels within x k deep₀ end child₀ next₀ deep child next = end - child
@@ -89,7 +90,7 @@ narrow-place-below-requires t c κs = rw ((c .before .before .before .find) .ens
 
 narrow-loop-holds : (t : ℕ) → narrow-lts.Need-loop-holds (R t) (narrow-at t) narrow.Post narrow-Inv-loop narrow-μ-loop
 narrow-loop-holds t c = let p = (c .before .before .before .before .before .before .before .before .before .before .before .before .before .before .before .before .before) .pre .1 .1 in
-    let h : (c .before .before .before .before .find) .result ≤ 4096 = rw ((c .before .before .before .before .find) .ensures) (find-le _ _ _) in
+    let h : (c .before .before .before .before .find) .result ≤ keyLimit = rw ((c .before .before .before .before .find) .ensures) (find-le _ _ _) in
     let e = p .3 ((c .before .before .before .before .before .before .before .before .before .before .before .before .before .before .before .before .before) .args .at) (omega arith) (p .0) in (
       omega arith,
       omega (arith, (c .place-below) .ensures),

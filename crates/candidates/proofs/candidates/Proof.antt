@@ -4,8 +4,8 @@ use native.Mathlib.Omega.{arith}
 use lib.ListN.{length, take}
 use lib.Seq.{length-take-le}
 use borrow.Author.Needs.{needs}
-use Rattle.bank.specs.Bank.{four}
-use Rattle.candidates.proofs.Laws.{candidates-end}
+use Rattle.keysets.specs.KeySets.{four}
+use Rattle.candidates.proofs.CandidateLaws.{candidates-end}
 use Rattle.candidates.proofs.candidates.Statement.{statement}
 use Rattle.candidates.proofs.candidates.Tie as tie
 

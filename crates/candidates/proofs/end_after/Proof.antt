@@ -5,7 +5,7 @@ use borrow.Author.Needs.{needs}
 use lib.ListN.{length, getD, drop}
 use Rattle.definitions.specs.Trees.{forest, others}
 use Rattle.candidates.specs.Forests.{forest-end}
-use Rattle.candidates.proofs.Laws.{after-start, after-turn, after-done}
+use Rattle.candidates.proofs.CandidateLaws.{after-start, after-turn, after-done}
 use Rattle.candidates.proofs.end_after.Statement.{statement}
 use Rattle.candidates.proofs.end_after.Tie as tie
 

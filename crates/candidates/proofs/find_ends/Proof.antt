@@ -5,7 +5,7 @@ use borrow.Author.Needs.{needs}
 use lib.ListN.{length, getD, drop, length-set}
 use Rattle.definitions.specs.Trees.{forest}
 use Rattle.candidates.specs.Ends.{EndsFrom, Ended}
-use Rattle.candidates.proofs.Laws.{ends-turn, ended-turn}
+use Rattle.candidates.proofs.CandidateLaws.{ends-turn, ended-turn}
 use Rattle.candidates.proofs.find_ends.Statement.{statement}
 use Rattle.candidates.proofs.find_ends.Tie as tie
 

@@ -1,4 +1,4 @@
-use Rattle.candidates.proofs.Laws.{rule-two, rule-three, rule-four, rule-other}
+use Rattle.candidates.proofs.CandidateLaws.{rule-two, rule-three, rule-four, rule-other}
 use Rattle.candidates.proofs.rule_of.Statement.{statement}
 use Rattle.candidates.proofs.rule_of.Tie as tie
 

@@ -1,5 +1,5 @@
 use native.Mathlib.Omega.{arith}
-use Rattle.candidates.proofs.Laws.{having-is}
+use Rattle.candidates.proofs.CandidateLaws.{having-is}
 use Rattle.candidates.proofs.star_at.Statement.{statement}
 use Rattle.candidates.proofs.star_at.Tie as tie
 

@@ -1,17 +1,18 @@
 use Prim.Native.Nat.{_≤_, _-_, _+_, _<_}
 use mathlib.Core.Path.{_≡_}
 use native.Mathlib.Omega.{arith}
-use Rattle.chains.specs.Opening.{NoHeads}
-use Rattle.chains.proofs.Opening.{heads-start, heads-turn}
+use Rattle.chains.specs.FreeChain.{NoHeads}
+use Rattle.chains.proofs.FreeChainLaws.{heads-start, heads-turn}
 use lib.ListN.{length}
 use Rattle.chains.proofs.clear_heads.Statement.{statement}
 use Rattle.chains.proofs.clear_heads.Tie as tie
+use Rattle.laws.specs.Sizes.{freeHead}
 
 abbrev Inv-loop : tie.InvT-loop
-Inv-loop link₀ i₀ link i = (i ≤ 8189) × (4095 ≤ i) × NoHeads link₀ link i
+Inv-loop link₀ i₀ link i = (i ≤ freeHead) × (4095 ≤ i) × NoHeads link₀ link i
 
 abbrev μ-loop : tie.MeasureT-loop
-μ-loop link₀ i₀ link i = 8189 - i
+μ-loop link₀ i₀ link i = freeHead - i
 
 loop-holds : tie.Need-loop-holds Inv-loop μ-loop
 loop-holds c = (omega arith, omega arith, heads-start _)
@@ -35,7 +36,7 @@ same-length : tie.Need-same-length Inv-loop μ-loop
 same-length c = (c .before .loop) .inv .2 .same
 
 returns : tie.Need-returns Inv-loop μ-loop
-returns c = let l = (c .before .loop) in let e : l .i ≡ 8189 = omega arith in rw e at (l .inv .2)
+returns c = let l = (c .before .loop) in let e : l .i ≡ freeHead = omega arith in rw e at (l .inv .2)
 
 pub clear-heads-spec : {M : Type 1} → statement M
 clear-heads-spec =

@@ -4,12 +4,13 @@ use mathlib.Core.Path.{_≡_, refl, sym, ap, _∙_}
 use native.Mathlib.Omega.{arith}
 use lib.ListN.{length, getD, set, length-set}
 use Rattle.chains.specs.Chains.{foundFrom, home, find, home-low}
-use Rattle.chains.proofs.Laws.{found-hit, found-miss, found-none, found-out, find-start}
+use Rattle.chains.proofs.ChainLaws.{found-hit, found-miss, found-none, found-out, find-start}
 use Rattle.chains.proofs.find.Statement.{statement}
 use Rattle.chains.proofs.find.Tie as tie
+use Rattle.laws.specs.Sizes.{keyLimit}
 
 abbrev Inv-loop : tie.InvT-loop
-Inv-loop link label w at k₀ fuel₀ k fuel = (fuel ≤ 4096) × (find link label w ≡ foundFrom link label w fuel k)
+Inv-loop link label w at k₀ fuel₀ k fuel = (fuel ≤ keyLimit) × (find link label w ≡ foundFrom link label w fuel k)
 
 abbrev μ-loop : tie.MeasureT-loop
 μ-loop link label w at k₀ fuel₀ k fuel = fuel

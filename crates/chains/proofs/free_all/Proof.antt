@@ -1,5 +1,5 @@
 use mathlib.Core.Path.{_≡_, _∙_}
-use Rattle.chains.proofs.Opening.{freed}
+use Rattle.chains.proofs.FreeChainLaws.{freed}
 use borrow.Author.Needs.{needs}
 use Rattle.chains.proofs.free_all.Statement.{statement}
 use Rattle.chains.proofs.free_all.Tie as tie

@@ -1,8 +1,8 @@
 use Prim.Native.Nat.{_≤_, _-_, _+_, _<_}
 use mathlib.Core.Path.{_≡_}
 use native.Mathlib.Omega.{arith}
-use Rattle.chains.specs.Opening.{FreeChain}
-use Rattle.chains.proofs.Opening.{chain-start, chain-turn}
+use Rattle.chains.specs.FreeChain.{FreeChain}
+use Rattle.chains.proofs.FreeChainLaws.{chain-start, chain-turn}
 use lib.ListN.{length}
 use Rattle.chains.proofs.free_chain.Statement.{statement}
 use Rattle.chains.proofs.free_chain.Tie as tie

@@ -3,7 +3,7 @@ use Prim.Native.Nat.{ℕ, zero, suc, _≤_, _-_, _+_, _<_, _*_, _%_, _/_}
 use mathlib.Core.Path.{_≡_, refl, sym, ap, _∙_}
 use native.Mathlib.Omega.{arith}
 use lib.ListN.{length, getD, set, length-set}
-use Rattle.chains.proofs.Laws.{home-label, home-free}
+use Rattle.chains.proofs.ChainLaws.{home-label, home-free}
 use Rattle.chains.proofs.home.Statement.{statement}
 use Rattle.chains.proofs.home.Tie as tie
 

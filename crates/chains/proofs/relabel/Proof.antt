@@ -3,7 +3,7 @@ use Prim.Native.Nat.{ℕ, zero, suc, _≤_, _-_, _+_, _<_, _*_, _%_, _/_}
 use mathlib.Core.Path.{_≡_, refl, sym, ap, _∙_}
 use native.Mathlib.Omega.{arith}
 use lib.ListN.{length, getD, set, length-set}
-use Rattle.chains.proofs.Laws.{relinked-is}
+use Rattle.chains.proofs.ChainLaws.{relinked-is}
 use Rattle.chains.proofs.relabel.Statement.{statement}
 use Rattle.chains.proofs.relabel.Tie as tie
 

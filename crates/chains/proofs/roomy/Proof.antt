@@ -4,12 +4,13 @@ use mathlib.Core.Path.{_≡_, refl, sym, ap, _∙_}
 use native.Mathlib.Omega.{arith}
 use lib.ListN.{length, getD, set, length-set}
 use Rattle.chains.specs.Chains.{longer}
-use Rattle.chains.proofs.Laws.{longer-end, longer-none, longer-step}
+use Rattle.chains.proofs.ChainLaws.{longer-end, longer-none, longer-step}
 use Rattle.chains.proofs.roomy.Statement.{statement}
 use Rattle.chains.proofs.roomy.Tie as tie
+use Rattle.laws.specs.Sizes.{freeHead}
 
 abbrev Inv-loop : tie.InvT-loop
-Inv-loop link m k₀ i₀ k i = longer link m (getD link 8189 0) ≡ longer link i k
+Inv-loop link m k₀ i₀ k i = longer link m (getD link freeHead 0) ≡ longer link i k
 
 abbrev μ-loop : tie.MeasureT-loop
 μ-loop link m k₀ i₀ k i = i

@@ -4,12 +4,13 @@ use mathlib.Core.Path.{_≡_, refl, sym, ap, _∙_}
 use native.Mathlib.Omega.{arith}
 use lib.ListN.{length, getD, set, length-set}
 use Rattle.chains.specs.Chains.{unlink}
-use Rattle.chains.proofs.Laws.{unlink-hit, unlink-miss, unlink-none, unlink-out}
+use Rattle.chains.proofs.ChainLaws.{unlink-hit, unlink-miss, unlink-none, unlink-out}
 use Rattle.chains.proofs.unlink.Statement.{statement}
 use Rattle.chains.proofs.unlink.Tie as tie
+use Rattle.laws.specs.Sizes.{keyLimit, linkLength}
 
 abbrev Inv-loop : tie.InvT-loop
-Inv-loop link₀ k from at₀ fuel₀ link at fuel = (link ≡ link₀) × (fuel ≤ 4096) × (at < 8190) × (length link ≡ length link₀) × (unlink link₀ k 4096 from (getD link₀ from 0) ≡ unlink link₀ k fuel at (getD link₀ at 0))
+Inv-loop link₀ k from at₀ fuel₀ link at fuel = (link ≡ link₀) × (fuel ≤ keyLimit) × (at < linkLength) × (length link ≡ length link₀) × (unlink link₀ k keyLimit from (getD link₀ from 0) ≡ unlink link₀ k fuel at (getD link₀ at 0))
 
 abbrev μ-loop : tie.MeasureT-loop
 μ-loop link₀ k from at₀ fuel₀ link at fuel = fuel

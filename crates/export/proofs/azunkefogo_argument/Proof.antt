@@ -1,7 +1,7 @@
 use lib.ListN.{length}
 use mathlib.Core.Path.{_≡_, sym, ap, _∙_}
 use borrow.Author.Needs.{needs}
-use Rattle.export.proofs.Laws.{start-kept, length-kept, start-told, length-told}
+use Rattle.export.proofs.ExportLaws.{start-kept, length-kept, start-told, length-told}
 use Rattle.terms.specs.Terms.{argRefusal}
 use Rattle.export.proofs.azunkefogo_argument.Statement.{statement}
 use Rattle.export.proofs.azunkefogo_argument.Tie as tie

@@ -1,4 +1,6 @@
-use Rattle.export.proofs.Calls.{deletes}
+use mathlib.Core.Path.{refl}
+use Rattle.library.specs.Store.{delete}
+use Rattle.export.proofs.ExportLaws.{tells}
 use borrow.Author.Needs.{needs}
 use Rattle.export.proofs.azunkefogo_delete.Statement.{statement}
 use Rattle.export.proofs.azunkefogo_delete.Tie as tie
@@ -6,8 +8,8 @@ use Rattle.export.proofs.azunkefogo_delete.Tie as tie
 delete-requires : tie.Need-delete-requires
 delete-requires c κs = search needs
 
-deleted-requires : tie.Need-deleted-requires
-deleted-requires c κs = search needs
+number-of-requires : tie.Need-number-of-requires
+number-of-requires c κs = search needs
 
 same-length : tie.Need-same-length
 same-length c = search needs
@@ -34,14 +36,14 @@ same-length-8 : tie.Need-same-length-8
 same-length-8 c = search needs
 
 returns : tie.Need-returns
-returns c = let d = c .before .before .before .before .before .before .before .before .before .before .before .before .before .before .before .before .before .delete in deletes _ _ _ (d .result) _ (d .ensures) (c .deleted .ensures)
+returns c = tells _ _ _ _ (delete _) ((c .before .before .before .before .before .before .before .before .before .before .before .before .before .before .before .before .before .delete) .result) _ ((c .before .before .before .before .before .before .before .before .before .before .before .before .before .before .before .before .before .delete) .ensures) ((c .number-of) .ensures) refl
 
 pub azunkefogo-delete-spec : {M : Type 1} → statement M
 azunkefogo-delete-spec =
     tie.close
     (tie.spec
     delete-requires
-    deleted-requires
+    number-of-requires
     same-length
     same-length-2
     same-length-3

@@ -1,4 +1,6 @@
-use Rattle.export.proofs.Calls.{inserts}
+use mathlib.Core.Path.{refl}
+use Rattle.library.specs.Store.{insert}
+use Rattle.export.proofs.ExportLaws.{tells-first}
 use borrow.Author.Needs.{needs}
 use Rattle.export.proofs.azunkefogo_insert.Statement.{statement}
 use Rattle.export.proofs.azunkefogo_insert.Tie as tie
@@ -6,8 +8,8 @@ use Rattle.export.proofs.azunkefogo_insert.Tie as tie
 insert-requires : tie.Need-insert-requires
 insert-requires c κs = search needs
 
-inserted-requires : tie.Need-inserted-requires
-inserted-requires c κs = search needs
+tell-first-requires : tie.Need-tell-first-requires
+tell-first-requires c κs = search needs
 
 same-length : tie.Need-same-length
 same-length c = search needs
@@ -34,14 +36,14 @@ same-length-8 : tie.Need-same-length-8
 same-length-8 c = search needs
 
 returns : tie.Need-returns
-returns c = let d = c .before .before .before .before .before .before .before .before .before .before .before .before .before .before .before .before .before .before .insert in inserts _ _ _ (d .result) _ _ _ (d .ensures) (c .inserted .ensures .0) (c .inserted .ensures .1)
+returns c = tells-first _ _ _ _ (insert _) ((c .before .before .before .before .before .before .before .before .before .before .before .before .before .before .before .before .before .before .insert) .result) _ ((c .before .before .before .before .before .before .before .before .before .before .before .before .before .before .before .before .before .before .insert) .ensures) ((c .tell-first) .ensures .0) refl _ _ ((c .tell-first) .ensures .1)
 
 pub azunkefogo-insert-spec : {M : Type 1} → statement M
 azunkefogo-insert-spec =
     tie.close
     (tie.spec
     insert-requires
-    inserted-requires
+    tell-first-requires
     same-length
     same-length-2
     same-length-3

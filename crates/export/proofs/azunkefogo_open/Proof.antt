@@ -1,4 +1,6 @@
-use Rattle.export.proofs.Calls.{opens}
+use mathlib.Core.Path.{refl}
+use Rattle.library.specs.Store.{openWith}
+use Rattle.export.proofs.ExportLaws.{tells}
 use borrow.Author.Needs.{needs}
 use Rattle.export.proofs.azunkefogo_open.Statement.{statement}
 use Rattle.export.proofs.azunkefogo_open.Tie as tie
@@ -6,8 +8,8 @@ use Rattle.export.proofs.azunkefogo_open.Tie as tie
 open-requires : tie.Need-open-requires
 open-requires c κs = search needs
 
-opened-requires : tie.Need-opened-requires
-opened-requires c κs = search needs
+number-of-requires : tie.Need-number-of-requires
+number-of-requires c κs = search needs
 
 same-length : tie.Need-same-length
 same-length c = search needs
@@ -34,14 +36,14 @@ same-length-8 : tie.Need-same-length-8
 same-length-8 c = search needs
 
 returns : tie.Need-returns
-returns c = let d = c .before .before .before .before .before .before .before .before .before .before .before .before .before .before .before .before .before .open in opens _ _ _ (d .result) _ (d .ensures) (c .opened .ensures)
+returns c = tells _ _ _ _ (openWith _) ((c .before .before .before .before .before .before .before .before .before .before .before .before .before .before .before .before .before .«open») .result) _ ((c .before .before .before .before .before .before .before .before .before .before .before .before .before .before .before .before .before .«open») .ensures) ((c .number-of) .ensures) refl
 
 pub azunkefogo-open-spec : {M : Type 1} → statement M
 azunkefogo-open-spec =
     tie.close
     (tie.spec
     open-requires
-    opened-requires
+    number-of-requires
     same-length
     same-length-2
     same-length-3

@@ -1,4 +1,4 @@
-use Rattle.export.proofs.Laws.{told-pair}
+use Rattle.export.proofs.ExportLaws.{told-pair}
 use borrow.Author.Needs.{needs}
 use Rattle.export.proofs.azunkefogo_unifiable.Statement.{statement}
 use Rattle.export.proofs.azunkefogo_unifiable.Tie as tie

@@ -7,7 +7,7 @@ use borrow.Author.Tests.{lt-ltb, le-ltb, not-true, not-false}
 use lib.ListN.{length, drop, getD, length-drop}
 use Rattle.laws.proofs.Lists.{tail-part}
 use Rattle.keys.specs.Bytes.{isKey, stepsGood, stepGood, endGood}
-use Rattle.keys.proofs.Laws.{steps-more, steps-end, steps-short}
+use Rattle.keys.proofs.KeyLaws.{steps-more, steps-end, steps-short}
 use Rattle.keys.proofs.is_key.Statement.{statement}
 use Rattle.keys.proofs.is_key.Tie as tie
 

@@ -4,7 +4,7 @@ use native.Mathlib.Omega.{arith}
 use borrow.Author.Needs.{needs}
 use lib.ListN.{length, drop, getD}
 use Rattle.layout.specs.Layout.{largestOf}
-use Rattle.layout.proofs.Laws.{largest-step, largest-end}
+use Rattle.layout.proofs.LayoutLaws.{largest-step, largest-end}
 use Rattle.layout.proofs.largest.Statement.{statement}
 use Rattle.layout.proofs.largest.Tie as tie
 

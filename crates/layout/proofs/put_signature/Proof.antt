@@ -3,7 +3,7 @@ use mathlib.Core.Path.{_≡_, refl, sym, ap, _∙_}
 use native.Mathlib.Omega.{arith}
 use lib.ListN.{length, length-set, set}
 use lib.Seq.{sets, length-sets}
-use Rattle.layout.proofs.Laws.{signed-is}
+use Rattle.layout.proofs.LayoutLaws.{signed-is}
 use borrow.Author.Needs.{needs}
 use Rattle.layout.proofs.put_signature.Statement.{statement}
 use Rattle.layout.proofs.put_signature.Tie as tie

@@ -7,6 +7,7 @@ use Rattle.layout.specs.Layout.{withTerm}
 use borrow.Author.Needs.{needs}
 use Rattle.layout.proofs.put_term.Statement.{statement}
 use Rattle.layout.proofs.put_term.Tie as tie
+use Rattle.laws.specs.Sizes.{lengthsStart, termsStart}
 
 low-requires : tie.Need-low-requires
 low-requires c κs = search needs
@@ -31,7 +32,7 @@ same-length c = (c .before .before .copy) .kept .0 ∙ simp length-set
 
 returns : tie.Need-returns
 unfolding withTerm
-returns c = (c .before .before .copy) .ensures ∙ ap (λ v. sets (set ((c .before .before .before .before .before .before .before) .args .bytes .now) (258 + (c .before .before .before .before .before .before .before) .args .slot) v) (770 + 64 * (c .before .before .before .before .before .before .before) .args .slot) ((c .before .before .before .before .before .before .before) .args .t .now)) ((c .before .before .before .before .low) .ensures)
+returns c = (c .before .before .copy) .ensures ∙ ap (λ v. sets (set ((c .before .before .before .before .before .before .before) .args .bytes .now) (lengthsStart + (c .before .before .before .before .before .before .before) .args .slot) v) (termsStart + 64 * (c .before .before .before .before .before .before .before) .args .slot) ((c .before .before .before .before .before .before .before) .args .t .now)) ((c .before .before .before .before .low) .ensures)
 
 pub put-term-spec : {M : Type 1} → statement M
 put-term-spec =

@@ -1,86 +1,64 @@
-use lib.ListN.{length-set}
+use Prim.Native.Nat.{_≤_, _-_, _+_, _<_}
+use mathlib.Core.Path.{_≡_, refl}
 use native.Mathlib.Omega.{arith}
-use mathlib.Core.Path.{refl}
+use lib.ListN.{length, take, length-set}
+use lib.Seq.{sets}
+use Rattle.laws.proofs.Lists.{sets-start}
 use Rattle.layout.specs.Layout.{usedOf}
-use Rattle.slots.specs.Slots.{words8}
-use borrow.Author.Needs.{needs}
+use Rattle.layout.proofs.LayoutLaws.{used-turn, used-end}
 use Rattle.layout.proofs.put_used.Statement.{statement}
 use Rattle.layout.proofs.put_used.Tie as tie
 
-array-read-used : tie.Need-array-read-used
-array-read-used c = search needs
+abbrev Inv-loop : tie.InvT-loop
+Inv-loop used₀ set i₀ used i = (i ≤ 8) × (length used ≡ length used₀) × (used ≡ sets used₀ 0 (take i (usedOf (set .words))))
 
-slice-write-used : tie.Need-slice-write-used
-slice-write-used c = search needs
+abbrev μ-loop : tie.MeasureT-loop
+μ-loop used₀ set i₀ used i = 8 - i
 
-array-read-used-2 : tie.Need-array-read-used-2
-array-read-used-2 c = search needs
+loop-holds : tie.Need-loop-holds Inv-loop μ-loop
+loop-holds c = (omega arith, refl, sets-start (c .args .used .now) 0 (usedOf (c .args .t2 .words)))
 
-slice-write-used-2 : tie.Need-slice-write-used-2
-slice-write-used-2 c = simp length-set (omega arith)
+mul-used : tie.Need-mul-used Inv-loop μ-loop
+mul-used c = omega arith
 
-array-read-used-3 : tie.Need-array-read-used-3
-array-read-used-3 c = search needs
+element-copy-out-used : tie.Need-element-copy-out-used Inv-loop μ-loop
+element-copy-out-used c = omega arith
 
-slice-write-used-3 : tie.Need-slice-write-used-3
-slice-write-used-3 c = simp length-set (omega arith)
+mul-used-2 : tie.Need-mul-used-2 Inv-loop μ-loop
+mul-used-2 c = omega arith
 
-array-read-used-4 : tie.Need-array-read-used-4
-array-read-used-4 c = search needs
+slice-write-used : tie.Need-slice-write-used Inv-loop μ-loop
+slice-write-used c = omega arith
 
-slice-write-used-4 : tie.Need-slice-write-used-4
-slice-write-used-4 c = simp length-set (omega arith)
+add-i : tie.Need-add-i Inv-loop μ-loop
+add-i c = omega arith
 
-array-read-used-5 : tie.Need-array-read-used-5
-array-read-used-5 c = search needs
+loop-less : tie.Need-loop-less Inv-loop μ-loop
+loop-less c = omega arith
 
-slice-write-used-5 : tie.Need-slice-write-used-5
-slice-write-used-5 c = simp length-set (omega arith)
+loop-again : tie.Need-loop-again Inv-loop μ-loop
+loop-again c = let l = c .before .before .loop in
+    (omega arith, simp length-set (l .inv .1), used-turn _ _ _ (l .i) (omega arith) (l .inv .2))
 
-array-read-used-6 : tie.Need-array-read-used-6
-array-read-used-6 c = search needs
+same-length : tie.Need-same-length Inv-loop μ-loop
+same-length c = c .before .loop .inv .1
 
-slice-write-used-6 : tie.Need-slice-write-used-6
-slice-write-used-6 c = simp length-set (omega arith)
-
-array-read-used-7 : tie.Need-array-read-used-7
-array-read-used-7 c = search needs
-
-slice-write-used-7 : tie.Need-slice-write-used-7
-slice-write-used-7 c = simp length-set (omega arith)
-
-array-read-used-8 : tie.Need-array-read-used-8
-array-read-used-8 c = search needs
-
-slice-write-used-8 : tie.Need-slice-write-used-8
-slice-write-used-8 c = simp length-set (omega arith)
-
-same-length : tie.Need-same-length
-same-length c = simp length-set
-
-returns : tie.Need-returns
-unfolding usedOf words8
-returns c = refl
+returns : tie.Need-returns Inv-loop μ-loop
+returns c = let l = c .before .loop in used-end _ _ _ (l .i) (omega arith) (l .inv .2)
 
 pub put-used-spec : {M : Type 1} → statement M
 put-used-spec =
     tie.close
     (tie.spec
-    array-read-used
+    Inv-loop
+    μ-loop
+    loop-holds
+    mul-used
+    element-copy-out-used
+    mul-used-2
     slice-write-used
-    array-read-used-2
-    slice-write-used-2
-    array-read-used-3
-    slice-write-used-3
-    array-read-used-4
-    slice-write-used-4
-    array-read-used-5
-    slice-write-used-5
-    array-read-used-6
-    slice-write-used-6
-    array-read-used-7
-    slice-write-used-7
-    array-read-used-8
-    slice-write-used-8
+    add-i
+    loop-less
+    loop-again
     same-length
     returns)

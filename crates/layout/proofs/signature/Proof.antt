@@ -1,5 +1,5 @@
 use borrow.Author.Needs.{needs}
-use Rattle.layout.proofs.Laws.{sig-none, sig-bad, sig-fine}
+use Rattle.layout.proofs.LayoutLaws.{sig-none, sig-bad, sig-fine}
 use Rattle.layout.proofs.signature.Statement.{statement}
 use Rattle.layout.proofs.signature.Tie as tie
 

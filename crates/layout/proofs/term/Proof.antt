@@ -1,4 +1,4 @@
-use Rattle.layout.proofs.Laws.{term-part}
+use Rattle.layout.proofs.LayoutLaws.{term-part}
 use borrow.Author.Needs.{needs}
 use Rattle.layout.proofs.term.Statement.{statement}
 use Rattle.layout.proofs.term.Tie as tie

@@ -2,11 +2,12 @@ use lib.ListN.{length, getD}
 use Prim.Native.Nat.{ℕ, _+_, _-_, _/_, _≤_, _<_}
 use mathlib.Core.Path.{_≡_, sym, ap, _∙_}
 use native.Mathlib.Omega.{arith}
-use Rattle.theory.specs.Items.{arity, items, codes, codes-at, length-codes, length-items}
+use Rattle.theory.specs.Items.{items, codes, codes-at, length-codes, length-items}
 use Rattle.theory.specs.Nodes.{begins-at}
-use Rattle.theory.specs.Walk.{extra, extra-arity, Walk, walk-start, walk-low, walk-turn, walk-end}
+use Rattle.theory.specs.ItemWalk.{extra, extra-arity, Walk, walk-start, walk-low, walk-turn, walk-end}
 use Rattle.matching.proofs.end_of.Statement.{statement}
 use Rattle.matching.proofs.end_of.Tie as tie
+use Rattle.terms.specs.Terms.{arity}
 
 abbrev Inv-loop : tie.InvT-loop
 Inv-loop sig t j opened₀ i₀ opened i = Walk sig (codes 0 t) j opened i × (j + 1 ≤ opened + i)
@@ -53,7 +54,7 @@ loop-again c = let a = (c .before .before .before .before .before .before) .args
     let l = (c .before .before .before) .loop in
     let b : l .i < length t / 2 = omega (arith, low (c .before .before .before), (c .before .before .loop-test) .taken) in
     let e : (c .arity) .result ≡ extra sig (getD (codes 0 t) (l .i) 0)
-    = (c .arity) .ensures .0 ∙ ap (λ (k : ℕ). getD sig k 0) ((c .before .number-at) .ensures .0 ∙ sym (codes-at t (l .i) b)) ∙ sym (extra-arity sig ((c .before .before .before .before .before .before) .pre .0 .sized) (getD (codes 0 t) (l .i) 0)) in
+    = (c .arity) .ensures .0 ∙ ap (λ (k : ℕ). arity sig k) ((c .before .number-at) .ensures .0 ∙ sym (codes-at t (l .i) b)) ∙ sym (extra-arity sig ((c .before .before .before .before .before .before) .pre .0 .sized) (getD (codes 0 t) (l .i) 0)) in
     (rw e (walk-turn sig (codes 0 t) (a .j) (l .opened) (l .i) (l .inv .0) ((c .before .before .loop-test) .taken)), omega (arith, l .inv .1, (c .before .before .loop-test) .taken))
 
 returns : tie.Need-returns Inv-loop μ-loop

@@ -4,7 +4,7 @@ use native.Mathlib.Omega.{arith}
 use lib.ListN.{length, take}
 use lib.Seq.{take-all}
 use Rattle.theory.specs.Relations.{decided-yes, decided-no}
-use Rattle.matching.proofs.Laws.{take-more, take-differs}
+use Rattle.matching.proofs.MatchingLaws.{take-more, take-differs}
 use Rattle.matching.proofs.equal.Statement.{statement}
 use Rattle.matching.proofs.equal.Tie as tie
 

@@ -4,7 +4,7 @@ use mathlib.Core.List.{List}
 use native.Mathlib.Omega.{arith}
 use lib.ListN.{replicate}
 use Rattle.theory.specs.Relations.{decided-yes, decided-no}
-use Rattle.matching.proofs.Laws.{zeros-at}
+use Rattle.matching.proofs.MatchingLaws.{zeros-at}
 use Rattle.matching.specs.Going.{Going, going-start, going-end}
 use Rattle.matching.proofs.instance.Statement.{statement}
 use Rattle.matching.proofs.instance.Tie as tie

@@ -5,6 +5,7 @@ use borrow.Author.Tests.{leb-true, leb-false}
 use borrow.Author.Needs.{needs}
 use Rattle.matching.proofs.meets.Statement.{statement}
 use Rattle.matching.proofs.meets.Tie as tie
+use Rattle.laws.specs.Sizes.{variableBase}
 
 mul-number-at : tie.Need-mul-number-at
 mul-number-at c = search needs
@@ -26,8 +27,8 @@ number-at-requires-2 c κs = search needs
 
 returns-2 : tie.Need-returns-2
 returns-2 c = record {
-  met = λ e h. omega (arith, leb-true 32768 ((c .number-at2) .result) e, (c .number-at2) .ensures .0);
-  alone = λ e. (omega (arith, (c .before .before .number-at) .ensures .0, (c .before .if1) .left), omega (arith, leb-false 32768 ((c .number-at2) .result) e, (c .number-at2) .ensures .0));
+  met = λ e h. omega (arith, leb-true variableBase ((c .number-at2) .result) e, (c .number-at2) .ensures .0);
+  alone = λ e. (omega (arith, (c .before .before .number-at) .ensures .0, (c .before .if1) .left), omega (arith, leb-false variableBase ((c .number-at2) .result) e, (c .number-at2) .ensures .0));
 }
 
 pub meets-spec : {M : Type 1} → statement M

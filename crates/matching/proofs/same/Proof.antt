@@ -4,7 +4,7 @@ use native.Mathlib.Omega.{arith}
 use lib.ListN.{take, drop}
 use Rattle.theory.specs.Items.{items}
 use Rattle.theory.specs.Relations.{decided-yes, decided-no}
-use Rattle.matching.proofs.Laws.{same-more, same-differs}
+use Rattle.matching.proofs.MatchingLaws.{same-more, same-differs}
 use Rattle.matching.proofs.same.Statement.{statement}
 use Rattle.matching.proofs.same.Tie as tie
 

@@ -6,6 +6,7 @@ use Rattle.matching.specs.Steps.{stepped-clash, stepped-symbol, stepped-
 use borrow.Author.Needs.{needs}
 use Rattle.matching.proofs.step.Statement.{statement}
 use Rattle.matching.proofs.step.Tie as tie
+use Rattle.laws.specs.Sizes.{variableBase}
 
 mul-number-at : tie.Need-mul-number-at
 mul-number-at c = search needs
@@ -45,7 +46,7 @@ agrees-requires c κs = let a = (c .before .before .before .before .before .befo
       omega (arith, (c .before .before .before .before .before .before .before) .pre .0 .named (a .i) ((c .before .before .before .before .before .before .before) .pre .2), (c .before .before .before .number-at) .ensures .0),
       (c .before .end-of) .ensures .ahead,
       (c .before .end-of) .ensures .low,
-      λ q z. (rw z at (g .table ((c .before .before .before .number-at) .result - 32768))) .0,
+      λ q z. (rw z at (g .table ((c .before .before .before .number-at) .result - variableBase))) .0,
     )
 
 returns-3 : tie.Need-returns-3

@@ -6,7 +6,7 @@ use lib.ListN.{length, getD, take, length-set}
 use lib.Seq.{sets, length-sets}
 use Rattle.laws.proofs.Lists.{front-turn, front-end, front-start}
 use Rattle.terms.specs.Terms.{numbers}
-use Rattle.terms.proofs.Laws.{length-numbers, getD-numbers}
+use Rattle.terms.proofs.TermLaws.{length-numbers, getD-numbers}
 use Rattle.outline.proofs.decode.Statement.{statement}
 use Rattle.outline.proofs.decode.Tie as tie
 

@@ -6,7 +6,7 @@ use lib.ListN.{length, getD, set, length-set}
 use mathlib.Core.List.{_++_}
 use lib.ListN.{drop}
 use Rattle.paths.specs.Ups.{kids}
-use Rattle.outline.proofs.Laws.{push-turn, kids-none, push-end}
+use Rattle.outline.proofs.OutlineLaws.{push-turn, kids-none, push-end}
 use Rattle.outline.proofs.push.Statement.{statement}
 use Rattle.outline.proofs.push.Tie as tie
 

@@ -5,12 +5,13 @@ use native.Mathlib.Omega.{arith}
 use borrow.Author.Needs.{needs}
 use lib.ListN.{length, getD, set, take, drop, length-set}
 use Rattle.paths.specs.Ups.{upsF}
-use Rattle.outline.proofs.Laws.{ups-turn, ups-stop, ups-done, ups-start, kept-turn, Below, below-head, below-turn, start-below}
+use Rattle.outline.proofs.OutlineLaws.{ups-turn, ups-stop, ups-done, ups-start, kept-turn, Below, below-head, below-turn, start-below}
 use Rattle.outline.proofs.ups.Statement.{statement}
 use Rattle.outline.proofs.ups.Tie as tie
+use Rattle.terms.specs.Terms.{arity}
 
 abbrev Inv-loop : tie.InvT-loop
-Inv-loop sig items out₀ stack₀ sp₀ i₀ out stack sp i = (i ≤ length items) × (sp ≤ 257) × (256 ≤ sp + 8 * i) × (length out ≡ length out₀) × (length stack ≡ 257) × (upsF (λ x. getD sig x 0) 0 (0 ∷ []) items ≡ take i out ++ upsF (λ x. getD sig x 0) i (drop sp stack) (drop i items)) × Below (8 * i) (drop sp stack) × (drop i out ≡ drop i out₀)
+Inv-loop sig items out₀ stack₀ sp₀ i₀ out stack sp i = (i ≤ length items) × (sp ≤ 257) × (256 ≤ sp + 8 * i) × (length out ≡ length out₀) × (length stack ≡ 257) × (upsF (λ x. arity sig x) 0 (0 ∷ []) items ≡ take i out ++ upsF (λ x. arity sig x) i (drop sp stack) (drop i items)) × Below (8 * i) (drop sp stack) × (drop i out ≡ drop i out₀)
 
 abbrev μ-loop : tie.MeasureT-loop
 μ-loop sig items out₀ stack₀ sp₀ i₀ out stack sp i = length items - i

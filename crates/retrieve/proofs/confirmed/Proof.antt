@@ -1,19 +1,26 @@
 use Prim.Native.Nat.{ℕ, _≤_, _-_, _+_, _<_}
 use mathlib.Core.Path.{_≡_, refl, sym, ap, _∙_}
 use mathlib.Core.List.{List}
+use mathlib.Core.Bool.{Bool}
 use native.Mathlib.Omega.{arith}
 use mathlib.Core.Logic.{⊎-elim}
 use Rattle.laws.specs.Choice.{pick}
 use Rattle.slots.specs.Slots.{inserted, next-above}
-use Rattle.retrieve.proofs.Laws.{pick-yes, pick-no, Confirming, confirming-start, confirming-turn, confirming-end}
+use Rattle.layout.specs.Layout.{termOf}
+use Rattle.retrieve.specs.Retrieving.{confirmsTerm}
+use Rattle.retrieve.proofs.ConfirmLaws.{pick-yes, pick-no, Confirming, confirming-start, confirming-turn, confirming-end}
 use Rattle.retrieve.proofs.confirmed.Statement.{statement}
 use Rattle.retrieve.proofs.confirmed.Tie as tie
+use Rattle.laws.specs.Sizes.{slotCount}
+
+abbrev test : List ℕ → ℕ → List ℕ → List ℕ → ℕ → Bool
+test bytes relation sig q s = confirmsTerm sig relation (termOf bytes s) q
 
 abbrev Inv-loop : tie.InvT-loop
-Inv-loop bytes relation sig q candidates answers₀ slot₀ answers slot = Confirming bytes relation sig q (candidates .words) (answers .words) slot
+Inv-loop bytes relation sig q candidates answers₀ slot₀ answers slot = Confirming (test bytes relation sig q) (candidates .words) (answers .words) slot
 
 abbrev μ-loop : tie.MeasureT-loop
-μ-loop bytes relation sig q candidates answers₀ slot₀ answers slot = 512 - slot
+μ-loop bytes relation sig q candidates answers₀ slot₀ answers slot = slotCount - slot
 
 empty-requires : tie.Need-empty-requires Inv-loop μ-loop
 empty-requires c κs = tt
@@ -22,7 +29,7 @@ next-requires : tie.Need-next-requires Inv-loop μ-loop
 next-requires c κs = tt
 
 loop-holds : tie.Need-loop-holds Inv-loop μ-loop
-loop-holds c = let a = (c .before .before .before .before .before) .args in confirming-start (a .bytes .now) (a .relation) (a .sig .now) (a .q .now) (a .candidates .words) _ _ ((c .before .empty) .ensures) ((c .next) .ensures)
+loop-holds c = let a = (c .before .before .before .before .before) .args in confirming-start (test (a .bytes .now) (a .relation) (a .sig .now) (a .q .now)) (a .candidates .words) _ _ ((c .before .empty) .ensures) ((c .next) .ensures)
 
 term-requires : tie.Need-term-requires Inv-loop μ-loop
 term-requires c κs = ((c .before .before .before .before .before .before .before) .pre .0, (c .loop-test) .taken)
@@ -47,11 +54,11 @@ loop-again c = let a = (c .before .before .before .before .before .before .befor
     let d = (c .before .before .stands) .ensures in
     let put : ((c .before .if1) .answers) .words ≡ pick ((c .before .before .stands) .result) (inserted (l .answers .words) (l .slot)) (l .answers .words) =
     ⊎-elim (λ z. pick-yes _ _ _ _ (z .0 .taken) (rw (z .2) (z .1 .ensures))) (λ z. pick-no _ _ _ _ (z .0 .left) (rw (z .1))) ((c .before .if1) .came) in
-    confirming-turn (a .bytes .now) (a .relation) (a .sig .now) (a .q .now) (a .candidates .words) (l .answers .words) (l .slot) (l .inv) ((c .before .before .before .before .loop-test) .taken) ((c .before .before .stands) .result) _ _ (rw ((c .before .before .before .term) .ensures .0) at d) put ((c .next2) .ensures)
+    confirming-turn (test (a .bytes .now) (a .relation) (a .sig .now) (a .q .now)) (a .candidates .words) (l .answers .words) (l .slot) (l .inv) ((c .before .before .before .before .loop-test) .taken) ((c .before .before .stands) .result) _ _ (rw ((c .before .before .before .term) .ensures .0) at d) put ((c .next2) .ensures)
 
 returns : tie.Need-returns Inv-loop μ-loop
 returns c = let a = (c .before .before .before .before .before .before .before) .args in let l = (c .before .loop) in
-    confirming-end (a .bytes .now) (a .relation) (a .sig .now) (a .q .now) (a .candidates .words) (l .answers .words) (l .slot) (l .inv) (omega (arith, (c .loop-test) .left))
+    confirming-end (test (a .bytes .now) (a .relation) (a .sig .now) (a .q .now)) (a .candidates .words) (l .answers .words) (l .slot) (l .inv) (omega (arith, (c .loop-test) .left))
 
 pub confirmed-spec : {M : Type 1} → statement M
 confirmed-spec =

@@ -3,10 +3,10 @@ use mathlib.Core.Path.{_≡_, refl, sym, ap, _∙_}
 use native.Mathlib.Omega.{arith}
 use borrow.Author.Needs.{needs}
 use borrow.Author.Tests.{not-false, not-true}
-use Rattle.layout.proofs.Laws.{long, signature-good}
-use Rattle.terms.proofs.Laws.{checked-good}
+use Rattle.layout.proofs.LayoutLaws.{long, signature-good}
+use Rattle.terms.proofs.TermLaws.{checked-good}
 use Rattle.layout.specs.Tables.{held}
-use Rattle.retrieve.proofs.Laws.{ample-is, checked-taken, retrieving-table, retrieving-relation, retrieving-question, retrieving-room, retrieving-listed}
+use Rattle.retrieve.proofs.RetrieveLaws.{ample-is, checked-taken, retrieving-table, retrieving-relation, retrieving-question, retrieving-room, retrieving-done}
 use Rattle.retrieve.proofs.retrieve.Statement.{statement}
 use Rattle.retrieve.proofs.retrieve.Tie as tie
 
@@ -67,7 +67,7 @@ same-length-2 : tie.Need-same-length-2
 same-length-2 c = search needs
 
 returns-5 : tie.Need-returns-5
-returns-5 c = let a = (c .before .before .before .before .before .before .before .before .before .before .before .before .before .before .before .before .before .before .before .before .before .before .before .before .before .before) .args in retrieving-listed (held (a .bytes .now) (a .used .now) (a .label .now) (a .link .now) (a .s0 .now) (a .s1 .now) (a .s2 .now) (a .s3 .now)) (a .relation) (a .q .now) (a .out .now) (ample-is (a .bytes .now) (a .used .now) (a .label .now) (a .link .now) (a .s0 .now) (a .s1 .now) (a .s2 .now) (a .s3 .now) ((c .before .before .before .before .before .before .before .before .before .before .before .before .before .before .before .long-enough) .result) _ ((c .before .before .before .before .before .before .before .before .before .before .before .before .before .before .before .long-enough) .ensures) (not-false ((c .before .before .before .before .before .before .before .before .before .before .before .before .before .before .before .long-enough) .result) ((c .before .before .before .before .before .before .before .before .before .before .before .before .before .before .if1) .left))) (omega (arith, (c .before .before .before .before .before .before .before .before .before .before .before .before .before .if2) .left)) ((c .before .before .before .before .before .before .before .before .before .before .before .before .signature) .result .now) ((c .before .before .before .before .before .before .before .before .before .before .before .before .signature) .ensures) (checked-taken ((c .before .before .before .before .before .before .before .before .before .before .before .before .signature) .result .now) (a .q .now) ((c .before .before .before .before .before .before .before .before .before .before .before .check) .result) ((c .before .before .before .before .before .before .before .before .before .before .before .check) .ensures) ((c .before .before .before .before .before .before .before .before .before .enum-told) .given .1)) ((c .before .before .before .before .before .before .before .candidates) .result .words) ((c .before .before .before .before .before .before .before .before .slots-used) .result .words) ((c .before .before .before .before .before .before .confirmed) .result .words) ((c .before .before .before .before .before .before .before .before .slots-used) .ensures) ((c .before .before .before .before .before .before .before .candidates) .ensures) ((c .before .before .before .before .before .before .confirmed) .ensures) ((c .size) .result) ((c .before .before .before .before .list) .result) _ ((c .size) .ensures .0) ((c .before .before .before .before .list) .ensures .0) (omega (arith, (c .before .if3) .left)) ((c .before .before .before .before .list) .ensures .2)
+returns-5 c = let a = (c .before .before .before .before .before .before .before .before .before .before .before .before .before .before .before .before .before .before .before .before .before .before .before .before .before .before) .args in retrieving-done (held (a .bytes .now) (a .used .now) (a .label .now) (a .link .now) (a .s0 .now) (a .s1 .now) (a .s2 .now) (a .s3 .now)) (a .relation) (a .q .now) (a .out .now) (ample-is (a .bytes .now) (a .used .now) (a .label .now) (a .link .now) (a .s0 .now) (a .s1 .now) (a .s2 .now) (a .s3 .now) ((c .before .before .before .before .before .before .before .before .before .before .before .before .before .before .before .long-enough) .result) _ ((c .before .before .before .before .before .before .before .before .before .before .before .before .before .before .before .long-enough) .ensures) (not-false ((c .before .before .before .before .before .before .before .before .before .before .before .before .before .before .before .long-enough) .result) ((c .before .before .before .before .before .before .before .before .before .before .before .before .before .before .if1) .left))) (omega (arith, (c .before .before .before .before .before .before .before .before .before .before .before .before .before .if2) .left)) ((c .before .before .before .before .before .before .before .before .before .before .before .before .signature) .result .now) ((c .before .before .before .before .before .before .before .before .before .before .before .before .signature) .ensures) (checked-taken ((c .before .before .before .before .before .before .before .before .before .before .before .before .signature) .result .now) (a .q .now) ((c .before .before .before .before .before .before .before .before .before .before .before .check) .result) ((c .before .before .before .before .before .before .before .before .before .before .before .check) .ensures) ((c .before .before .before .before .before .before .before .before .before .enum-told) .given .1)) ((c .before .before .before .before .before .before .before .candidates) .result .words) ((c .before .before .before .before .before .before .before .before .slots-used) .result .words) ((c .before .before .before .before .before .before .confirmed) .result .words) ((c .before .before .before .before .before .before .before .before .slots-used) .ensures) ((c .before .before .before .before .before .before .before .candidates) .ensures) ((c .before .before .before .before .before .before .confirmed) .ensures) ((c .size) .result) ((c .before .before .before .before .list) .result) _ ((c .size) .ensures .0) ((c .before .before .before .before .list) .ensures .0) (omega (arith, (c .before .if3) .left)) ((c .before .before .before .before .list) .ensures .2)
 
 pub retrieve-spec : {M : Type 1} → statement M
 retrieve-spec =

@@ -3,14 +3,14 @@ use mathlib.Core.Path.{_≡_, refl, sym, ap, _∙_}
 use native.Mathlib.Omega.{arith}
 use borrow.Author.Needs.{needs}
 use borrow.Author.Tests.{not-false, not-true}
-use Rattle.layout.proofs.Laws.{long, signature-good, in-use-small}
+use Rattle.layout.proofs.LayoutLaws.{long, signature-good, in-use-small}
 use Rattle.terms.specs.Terms.{Signed}
-use Rattle.terms.proofs.Laws.{checked-good, is-good}
-use Rattle.theory.specs.Checked.{fine-good}
-use Rattle.unify.specs.Checked.{asked-good}
+use Rattle.terms.proofs.TermLaws.{checked-good, is-good}
+use Rattle.theory.specs.CheckedItems.{fine-good}
+use Rattle.unify.specs.CheckedTerms.{asked-good}
 use Rattle.layout.specs.Tables.{held}
-use Rattle.unify.specs.declared.Recorded.{Recorded}
-use Rattle.retrieve.proofs.Laws.{ample-is, checked-taken, unsolvable-table, unsolvable-slot, unsolvable-question, unsolvable-term, unsolvable-none, solving-early, solving-late}
+use Rattle.solution.specs.declared.Recorded.{Recorded}
+use Rattle.retrieve.proofs.RetrieveLaws.{ample-is, checked-taken, solving-table, solving-slot, solving-question, solving-term, solving-solved}
 use Rattle.retrieve.proofs.solve.Statement.{statement}
 use Rattle.retrieve.proofs.solve.Tie as tie
 
@@ -18,14 +18,14 @@ long-enough-requires : tie.Need-long-enough-requires
 long-enough-requires c κs = search needs
 
 returns : tie.Need-returns
-returns c = let a = (c .before .before .before .before .before .before .before .before .before .before .before .before) .args in solving-early (held (a .bytes .now) (a .used .now) (a .label .now) (a .link .now) (a .s0 .now) (a .s1 .now) (a .s2 .now) (a .s3 .now)) (a .slot) (a .q .now) (a .out .now) _ (unsolvable-table (held (a .bytes .now) (a .used .now) (a .label .now) (a .link .now) (a .s0 .now) (a .s1 .now) (a .s2 .now) (a .s3 .now)) (a .slot) (a .q .now) (ample-is (a .bytes .now) (a .used .now) (a .label .now) (a .link .now) (a .s0 .now) (a .s1 .now) (a .s2 .now) (a .s3 .now) ((c .before .long-enough) .result) _ ((c .before .long-enough) .ensures) (not-true ((c .before .long-enough) .result) ((c .if1) .taken))))
+returns c = let a = (c .before .before .before .before .before .before .before .before .before .before .before .before) .args in solving-table (held (a .bytes .now) (a .used .now) (a .label .now) (a .link .now) (a .s0 .now) (a .s1 .now) (a .s2 .now) (a .s3 .now)) (a .slot) (a .q .now) (a .out .now) (ample-is (a .bytes .now) (a .used .now) (a .label .now) (a .link .now) (a .s0 .now) (a .s1 .now) (a .s2 .now) (a .s3 .now) ((c .before .long-enough) .result) _ ((c .before .long-enough) .ensures) (not-true ((c .before .long-enough) .result) ((c .if1) .taken)))
 
 in-use-requires : tie.Need-in-use-requires
 in-use-requires c κs = let L = long _ _ _ _ _ _ _ _ (sym ((c .before .long-enough) .ensures) ∙ not-false ((c .before .long-enough) .result) ((c .if1) .left)) in
     L .used
 
 returns-2 : tie.Need-returns-2
-returns-2 c = let a = (c .before .before .before .before .before .before .before .before .before .before .before .before .before .before) .args in solving-early (held (a .bytes .now) (a .used .now) (a .label .now) (a .link .now) (a .s0 .now) (a .s1 .now) (a .s2 .now) (a .s3 .now)) (a .slot) (a .q .now) (a .out .now) _ (unsolvable-slot (held (a .bytes .now) (a .used .now) (a .label .now) (a .link .now) (a .s0 .now) (a .s1 .now) (a .s2 .now) (a .s3 .now)) (a .slot) (a .q .now) (ample-is (a .bytes .now) (a .used .now) (a .label .now) (a .link .now) (a .s0 .now) (a .s1 .now) (a .s2 .now) (a .s3 .now) ((c .before .before .before .long-enough) .result) _ ((c .before .before .before .long-enough) .ensures) (not-false ((c .before .before .before .long-enough) .result) ((c .before .before .if1) .left))) (sym ((c .before .in-use) .ensures) ∙ not-true ((c .before .in-use) .result) ((c .if2) .taken)))
+returns-2 c = let a = (c .before .before .before .before .before .before .before .before .before .before .before .before .before .before) .args in solving-slot (held (a .bytes .now) (a .used .now) (a .label .now) (a .link .now) (a .s0 .now) (a .s1 .now) (a .s2 .now) (a .s3 .now)) (a .slot) (a .q .now) (a .out .now) (ample-is (a .bytes .now) (a .used .now) (a .label .now) (a .link .now) (a .s0 .now) (a .s1 .now) (a .s2 .now) (a .s3 .now) ((c .before .before .before .long-enough) .result) _ ((c .before .before .before .long-enough) .ensures) (not-false ((c .before .before .before .long-enough) .result) ((c .before .before .if1) .left))) (sym ((c .before .in-use) .ensures) ∙ not-true ((c .before .in-use) .result) ((c .if2) .taken))
 
 signature-requires : tie.Need-signature-requires
 signature-requires c κs = let L = long _ _ _ _ _ _ _ _ (sym ((c .before .before .before .long-enough) .ensures) ∙ not-false ((c .before .before .before .long-enough) .result) ((c .before .before .if1) .left)) in
@@ -38,7 +38,7 @@ enum-known-checked : tie.Need-enum-known-checked
 enum-known-checked c = search needs
 
 returns-3 : tie.Need-returns-3
-returns-3 c = let a = (c .before .before .before .before .before .before .before .before .before .before .before .before .before .before .before .before .before .before .before) .args in solving-early (held (a .bytes .now) (a .used .now) (a .label .now) (a .link .now) (a .s0 .now) (a .s1 .now) (a .s2 .now) (a .s3 .now)) (a .slot) (a .q .now) (a .out .now) _ (unsolvable-question (held (a .bytes .now) (a .used .now) (a .label .now) (a .link .now) (a .s0 .now) (a .s1 .now) (a .s2 .now) (a .s3 .now)) (a .slot) (a .q .now) (ample-is (a .bytes .now) (a .used .now) (a .label .now) (a .link .now) (a .s0 .now) (a .s1 .now) (a .s2 .now) (a .s3 .now) ((c .before .before .before .before .before .before .before .before .long-enough) .result) _ ((c .before .before .before .before .before .before .before .before .long-enough) .ensures) (not-false ((c .before .before .before .before .before .before .before .before .long-enough) .result) ((c .before .before .before .before .before .before .before .if1) .left))) (sym ((c .before .before .before .before .before .before .in-use) .ensures) ∙ not-false ((c .before .before .before .before .before .before .in-use) .result) ((c .before .before .before .before .before .if2) .left)) ((c .before .before .before .before .signature) .result .now) ((c .before .before .before .before .signature) .ensures) ((c .before .before .before .check) .result) _ ((c .before .before .before .check) .ensures) ((c .before .checked) .given .1))
+returns-3 c = let a = (c .before .before .before .before .before .before .before .before .before .before .before .before .before .before .before .before .before .before .before) .args in solving-question (held (a .bytes .now) (a .used .now) (a .label .now) (a .link .now) (a .s0 .now) (a .s1 .now) (a .s2 .now) (a .s3 .now)) (a .slot) (a .q .now) (a .out .now) (ample-is (a .bytes .now) (a .used .now) (a .label .now) (a .link .now) (a .s0 .now) (a .s1 .now) (a .s2 .now) (a .s3 .now) ((c .before .before .before .before .before .before .before .before .long-enough) .result) _ ((c .before .before .before .before .before .before .before .before .long-enough) .ensures) (not-false ((c .before .before .before .before .before .before .before .before .long-enough) .result) ((c .before .before .before .before .before .before .before .if1) .left))) (sym ((c .before .before .before .before .before .before .in-use) .ensures) ∙ not-false ((c .before .before .before .before .before .before .in-use) .result) ((c .before .before .before .before .before .if2) .left)) ((c .before .before .before .before .signature) .result .now) ((c .before .before .before .before .signature) .ensures) ((c .before .before .before .check) .result) _ ((c .before .before .before .check) .ensures) ((c .before .checked) .given .1)
 
 enum-told : tie.Need-enum-told
 enum-told c = search needs
@@ -51,7 +51,7 @@ is-term-requires : tie.Need-is-term-requires
 is-term-requires c κs = search needs
 
 returns-4 : tie.Need-returns-4
-returns-4 c = let a = (c .before .before .before .before .before .before .before .before .before .before .before .before .before .before .before .before .before .before .before .before .before) .args in solving-early (held (a .bytes .now) (a .used .now) (a .label .now) (a .link .now) (a .s0 .now) (a .s1 .now) (a .s2 .now) (a .s3 .now)) (a .slot) (a .q .now) (a .out .now) _ (unsolvable-term (held (a .bytes .now) (a .used .now) (a .label .now) (a .link .now) (a .s0 .now) (a .s1 .now) (a .s2 .now) (a .s3 .now)) (a .slot) (a .q .now) (ample-is (a .bytes .now) (a .used .now) (a .label .now) (a .link .now) (a .s0 .now) (a .s1 .now) (a .s2 .now) (a .s3 .now) ((c .before .before .before .before .before .before .before .before .before .before .long-enough) .result) _ ((c .before .before .before .before .before .before .before .before .before .before .long-enough) .ensures) (not-false ((c .before .before .before .before .before .before .before .before .before .before .long-enough) .result) ((c .before .before .before .before .before .before .before .before .before .if1) .left))) (sym ((c .before .before .before .before .before .before .before .before .in-use) .ensures) ∙ not-false ((c .before .before .before .before .before .before .before .before .in-use) .result) ((c .before .before .before .before .before .before .before .if2) .left)) ((c .before .before .before .before .before .before .signature) .result .now) ((c .before .before .before .before .before .before .signature) .ensures) (checked-taken ((c .before .before .before .before .before .before .signature) .result .now) (a .q .now) ((c .before .before .before .before .before .check) .result) ((c .before .before .before .before .before .check) .ensures) ((c .before .before .before .enum-told) .given .1)) ((c .before .before .term) .result .now) ((c .before .before .term) .ensures .0) ((c .before .is-term) .result) ((c .before .is-term) .ensures) (not-true ((c .before .is-term) .result) ((c .if3) .taken)))
+returns-4 c = let a = (c .before .before .before .before .before .before .before .before .before .before .before .before .before .before .before .before .before .before .before .before .before) .args in solving-term (held (a .bytes .now) (a .used .now) (a .label .now) (a .link .now) (a .s0 .now) (a .s1 .now) (a .s2 .now) (a .s3 .now)) (a .slot) (a .q .now) (a .out .now) (ample-is (a .bytes .now) (a .used .now) (a .label .now) (a .link .now) (a .s0 .now) (a .s1 .now) (a .s2 .now) (a .s3 .now) ((c .before .before .before .before .before .before .before .before .before .before .long-enough) .result) _ ((c .before .before .before .before .before .before .before .before .before .before .long-enough) .ensures) (not-false ((c .before .before .before .before .before .before .before .before .before .before .long-enough) .result) ((c .before .before .before .before .before .before .before .before .before .if1) .left))) (sym ((c .before .before .before .before .before .before .before .before .in-use) .ensures) ∙ not-false ((c .before .before .before .before .before .before .before .before .in-use) .result) ((c .before .before .before .before .before .before .before .if2) .left)) ((c .before .before .before .before .before .before .signature) .result .now) ((c .before .before .before .before .before .before .signature) .ensures) (checked-taken ((c .before .before .before .before .before .before .signature) .result .now) (a .q .now) ((c .before .before .before .before .before .check) .result) ((c .before .before .before .before .before .check) .ensures) ((c .before .before .before .enum-told) .given .1)) ((c .before .before .term) .result .now) ((c .before .before .term) .ensures .0) ((c .before .is-term) .result) ((c .before .is-term) .ensures) (not-true ((c .before .is-term) .result) ((c .if3) .taken))
 
 record-requires : tie.Need-record-requires
 record-requires c κs = let g : Signed ((c .before .before .before .before .before .before .before .signature) .result .now) = rw ((c .before .before .before .before .before .before .before .signature) .ensures) (signature-good _) in
@@ -73,25 +73,25 @@ same-length : tie.Need-same-length
 same-length c = search needs
 
 returns-5 : tie.Need-returns-5
-returns-5 c = let a = (c .before .before .before .before .before .before .before .before .before .before .before .before .before .before .before .before .before .before .before .before .before .before .before .before .before .before .before .before) .args in solving-late (held (a .bytes .now) (a .used .now) (a .label .now) (a .link .now) (a .s0 .now) (a .s1 .now) (a .s2 .now) (a .s3 .now)) (a .slot) (a .q .now) (a .out .now) _ ((c .before .before .before .before .before .before .before .before .before .before .before .before .before .signature) .result .now) ((c .before .before .before .before .before .before .before .before .before .term) .result .now) ((c .before .before .before .before .before .«record») .result) (Recorded.Written _ _) ((c .before .before .before .before .before .before .before .before .before .before .before .before .before .signature) .ensures) ((c .before .before .before .before .before .before .before .before .before .term) .ensures .0) (unsolvable-none (held (a .bytes .now) (a .used .now) (a .label .now) (a .link .now) (a .s0 .now) (a .s1 .now) (a .s2 .now) (a .s3 .now)) (a .slot) (a .q .now) (ample-is (a .bytes .now) (a .used .now) (a .label .now) (a .link .now) (a .s0 .now) (a .s1 .now) (a .s2 .now) (a .s3 .now) ((c .before .before .before .before .before .before .before .before .before .before .before .before .before .before .before .before .before .long-enough) .result) _ ((c .before .before .before .before .before .before .before .before .before .before .before .before .before .before .before .before .before .long-enough) .ensures) (not-false ((c .before .before .before .before .before .before .before .before .before .before .before .before .before .before .before .before .before .long-enough) .result) ((c .before .before .before .before .before .before .before .before .before .before .before .before .before .before .before .before .if1) .left))) (sym ((c .before .before .before .before .before .before .before .before .before .before .before .before .before .before .before .in-use) .ensures) ∙ not-false ((c .before .before .before .before .before .before .before .before .before .before .before .before .before .before .before .in-use) .result) ((c .before .before .before .before .before .before .before .before .before .before .before .before .before .before .if2) .left)) ((c .before .before .before .before .before .before .before .before .before .before .before .before .before .signature) .result .now) ((c .before .before .before .before .before .before .before .before .before .before .before .before .before .signature) .ensures) (checked-taken ((c .before .before .before .before .before .before .before .before .before .before .before .before .before .signature) .result .now) (a .q .now) ((c .before .before .before .before .before .before .before .before .before .before .before .before .check) .result) ((c .before .before .before .before .before .before .before .before .before .before .before .before .check) .ensures) ((c .before .before .before .before .before .before .before .before .before .before .enum-told) .given .1)) ((c .before .before .before .before .before .before .before .before .before .term) .result .now) ((c .before .before .before .before .before .before .before .before .before .term) .ensures .0) ((c .before .before .before .before .before .before .before .before .is-term) .result) ((c .before .before .before .before .before .before .before .before .is-term) .ensures) (not-false ((c .before .before .before .before .before .before .before .before .is-term) .result) ((c .before .before .before .before .before .before .before .if3) .left))) ((c .before .r) .given .1) ((c .before .before .before .before .before .«record») .ensures)
+returns-5 c = let a = (c .before .before .before .before .before .before .before .before .before .before .before .before .before .before .before .before .before .before .before .before .before .before .before .before .before .before .before .before) .args in solving-solved (held (a .bytes .now) (a .used .now) (a .label .now) (a .link .now) (a .s0 .now) (a .s1 .now) (a .s2 .now) (a .s3 .now)) (a .slot) (a .q .now) (a .out .now) (ample-is (a .bytes .now) (a .used .now) (a .label .now) (a .link .now) (a .s0 .now) (a .s1 .now) (a .s2 .now) (a .s3 .now) ((c .before .before .before .before .before .before .before .before .before .before .before .before .before .before .before .before .before .long-enough) .result) _ ((c .before .before .before .before .before .before .before .before .before .before .before .before .before .before .before .before .before .long-enough) .ensures) (not-false ((c .before .before .before .before .before .before .before .before .before .before .before .before .before .before .before .before .before .long-enough) .result) ((c .before .before .before .before .before .before .before .before .before .before .before .before .before .before .before .before .if1) .left))) (sym ((c .before .before .before .before .before .before .before .before .before .before .before .before .before .before .before .in-use) .ensures) ∙ not-false ((c .before .before .before .before .before .before .before .before .before .before .before .before .before .before .before .in-use) .result) ((c .before .before .before .before .before .before .before .before .before .before .before .before .before .before .if2) .left)) ((c .before .before .before .before .before .before .before .before .before .before .before .before .before .signature) .result .now) ((c .before .before .before .before .before .before .before .before .before .before .before .before .before .signature) .ensures) (checked-taken ((c .before .before .before .before .before .before .before .before .before .before .before .before .before .signature) .result .now) (a .q .now) ((c .before .before .before .before .before .before .before .before .before .before .before .before .check) .result) ((c .before .before .before .before .before .before .before .before .before .before .before .before .check) .ensures) ((c .before .before .before .before .before .before .before .before .before .before .enum-told) .given .1)) ((c .before .before .before .before .before .before .before .before .before .term) .result .now) ((c .before .before .before .before .before .before .before .before .before .term) .ensures .0) ((c .before .before .before .before .before .before .before .before .is-term) .result) ((c .before .before .before .before .before .before .before .before .is-term) .ensures) (not-false ((c .before .before .before .before .before .before .before .before .is-term) .result) ((c .before .before .before .before .before .before .before .if3) .left)) _ ((c .before .before .before .before .before .«record») .result) (Recorded.Written _ _) ((c .before .r) .given .1) ((c .before .before .before .before .before .«record») .ensures)
 
 same-length-2 : tie.Need-same-length-2
 same-length-2 c = search needs
 
 returns-6 : tie.Need-returns-6
-returns-6 c = let a = (c .before .before .before .before .before .before .before .before .before .before .before .before .before .before .before .before .before .before .before .before .before .before .before .before .before .before .before) .args in solving-late (held (a .bytes .now) (a .used .now) (a .label .now) (a .link .now) (a .s0 .now) (a .s1 .now) (a .s2 .now) (a .s3 .now)) (a .slot) (a .q .now) (a .out .now) _ ((c .before .before .before .before .before .before .before .before .before .before .before .before .signature) .result .now) ((c .before .before .before .before .before .before .before .before .term) .result .now) ((c .before .before .before .before .«record») .result) Recorded.Nothing ((c .before .before .before .before .before .before .before .before .before .before .before .before .signature) .ensures) ((c .before .before .before .before .before .before .before .before .term) .ensures .0) (unsolvable-none (held (a .bytes .now) (a .used .now) (a .label .now) (a .link .now) (a .s0 .now) (a .s1 .now) (a .s2 .now) (a .s3 .now)) (a .slot) (a .q .now) (ample-is (a .bytes .now) (a .used .now) (a .label .now) (a .link .now) (a .s0 .now) (a .s1 .now) (a .s2 .now) (a .s3 .now) ((c .before .before .before .before .before .before .before .before .before .before .before .before .before .before .before .before .long-enough) .result) _ ((c .before .before .before .before .before .before .before .before .before .before .before .before .before .before .before .before .long-enough) .ensures) (not-false ((c .before .before .before .before .before .before .before .before .before .before .before .before .before .before .before .before .long-enough) .result) ((c .before .before .before .before .before .before .before .before .before .before .before .before .before .before .before .if1) .left))) (sym ((c .before .before .before .before .before .before .before .before .before .before .before .before .before .before .in-use) .ensures) ∙ not-false ((c .before .before .before .before .before .before .before .before .before .before .before .before .before .before .in-use) .result) ((c .before .before .before .before .before .before .before .before .before .before .before .before .before .if2) .left)) ((c .before .before .before .before .before .before .before .before .before .before .before .before .signature) .result .now) ((c .before .before .before .before .before .before .before .before .before .before .before .before .signature) .ensures) (checked-taken ((c .before .before .before .before .before .before .before .before .before .before .before .before .signature) .result .now) (a .q .now) ((c .before .before .before .before .before .before .before .before .before .before .before .check) .result) ((c .before .before .before .before .before .before .before .before .before .before .before .check) .ensures) ((c .before .before .before .before .before .before .before .before .before .enum-told) .given .1)) ((c .before .before .before .before .before .before .before .before .term) .result .now) ((c .before .before .before .before .before .before .before .before .term) .ensures .0) ((c .before .before .before .before .before .before .before .is-term) .result) ((c .before .before .before .before .before .before .before .is-term) .ensures) (not-false ((c .before .before .before .before .before .before .before .is-term) .result) ((c .before .before .before .before .before .before .if3) .left))) ((c .enum-told2) .given .1) ((c .before .before .before .before .«record») .ensures)
+returns-6 c = let a = (c .before .before .before .before .before .before .before .before .before .before .before .before .before .before .before .before .before .before .before .before .before .before .before .before .before .before .before) .args in solving-solved (held (a .bytes .now) (a .used .now) (a .label .now) (a .link .now) (a .s0 .now) (a .s1 .now) (a .s2 .now) (a .s3 .now)) (a .slot) (a .q .now) (a .out .now) (ample-is (a .bytes .now) (a .used .now) (a .label .now) (a .link .now) (a .s0 .now) (a .s1 .now) (a .s2 .now) (a .s3 .now) ((c .before .before .before .before .before .before .before .before .before .before .before .before .before .before .before .before .long-enough) .result) _ ((c .before .before .before .before .before .before .before .before .before .before .before .before .before .before .before .before .long-enough) .ensures) (not-false ((c .before .before .before .before .before .before .before .before .before .before .before .before .before .before .before .before .long-enough) .result) ((c .before .before .before .before .before .before .before .before .before .before .before .before .before .before .before .if1) .left))) (sym ((c .before .before .before .before .before .before .before .before .before .before .before .before .before .before .in-use) .ensures) ∙ not-false ((c .before .before .before .before .before .before .before .before .before .before .before .before .before .before .in-use) .result) ((c .before .before .before .before .before .before .before .before .before .before .before .before .before .if2) .left)) ((c .before .before .before .before .before .before .before .before .before .before .before .before .signature) .result .now) ((c .before .before .before .before .before .before .before .before .before .before .before .before .signature) .ensures) (checked-taken ((c .before .before .before .before .before .before .before .before .before .before .before .before .signature) .result .now) (a .q .now) ((c .before .before .before .before .before .before .before .before .before .before .before .check) .result) ((c .before .before .before .before .before .before .before .before .before .before .before .check) .ensures) ((c .before .before .before .before .before .before .before .before .before .enum-told) .given .1)) ((c .before .before .before .before .before .before .before .before .term) .result .now) ((c .before .before .before .before .before .before .before .before .term) .ensures .0) ((c .before .before .before .before .before .before .before .is-term) .result) ((c .before .before .before .before .before .before .before .is-term) .ensures) (not-false ((c .before .before .before .before .before .before .before .is-term) .result) ((c .before .before .before .before .before .before .if3) .left)) _ ((c .before .before .before .before .«record») .result) Recorded.Nothing ((c .enum-told2) .given .1) ((c .before .before .before .before .«record») .ensures)
 
 same-length-3 : tie.Need-same-length-3
 same-length-3 c = search needs
 
 returns-7 : tie.Need-returns-7
-returns-7 c = let a = (c .before .before .before .before .before .before .before .before .before .before .before .before .before .before .before .before .before .before .before .before .before .before .before .before .before .before .before) .args in solving-late (held (a .bytes .now) (a .used .now) (a .label .now) (a .link .now) (a .s0 .now) (a .s1 .now) (a .s2 .now) (a .s3 .now)) (a .slot) (a .q .now) (a .out .now) _ ((c .before .before .before .before .before .before .before .before .before .before .before .before .signature) .result .now) ((c .before .before .before .before .before .before .before .before .term) .result .now) ((c .before .before .before .before .«record») .result) Recorded.Long ((c .before .before .before .before .before .before .before .before .before .before .before .before .signature) .ensures) ((c .before .before .before .before .before .before .before .before .term) .ensures .0) (unsolvable-none (held (a .bytes .now) (a .used .now) (a .label .now) (a .link .now) (a .s0 .now) (a .s1 .now) (a .s2 .now) (a .s3 .now)) (a .slot) (a .q .now) (ample-is (a .bytes .now) (a .used .now) (a .label .now) (a .link .now) (a .s0 .now) (a .s1 .now) (a .s2 .now) (a .s3 .now) ((c .before .before .before .before .before .before .before .before .before .before .before .before .before .before .before .before .long-enough) .result) _ ((c .before .before .before .before .before .before .before .before .before .before .before .before .before .before .before .before .long-enough) .ensures) (not-false ((c .before .before .before .before .before .before .before .before .before .before .before .before .before .before .before .before .long-enough) .result) ((c .before .before .before .before .before .before .before .before .before .before .before .before .before .before .before .if1) .left))) (sym ((c .before .before .before .before .before .before .before .before .before .before .before .before .before .before .in-use) .ensures) ∙ not-false ((c .before .before .before .before .before .before .before .before .before .before .before .before .before .before .in-use) .result) ((c .before .before .before .before .before .before .before .before .before .before .before .before .before .if2) .left)) ((c .before .before .before .before .before .before .before .before .before .before .before .before .signature) .result .now) ((c .before .before .before .before .before .before .before .before .before .before .before .before .signature) .ensures) (checked-taken ((c .before .before .before .before .before .before .before .before .before .before .before .before .signature) .result .now) (a .q .now) ((c .before .before .before .before .before .before .before .before .before .before .before .check) .result) ((c .before .before .before .before .before .before .before .before .before .before .before .check) .ensures) ((c .before .before .before .before .before .before .before .before .before .enum-told) .given .1)) ((c .before .before .before .before .before .before .before .before .term) .result .now) ((c .before .before .before .before .before .before .before .before .term) .ensures .0) ((c .before .before .before .before .before .before .before .is-term) .result) ((c .before .before .before .before .before .before .before .is-term) .ensures) (not-false ((c .before .before .before .before .before .before .before .is-term) .result) ((c .before .before .before .before .before .before .if3) .left))) ((c .enum-told3) .given .1) ((c .before .before .before .before .«record») .ensures)
+returns-7 c = let a = (c .before .before .before .before .before .before .before .before .before .before .before .before .before .before .before .before .before .before .before .before .before .before .before .before .before .before .before) .args in solving-solved (held (a .bytes .now) (a .used .now) (a .label .now) (a .link .now) (a .s0 .now) (a .s1 .now) (a .s2 .now) (a .s3 .now)) (a .slot) (a .q .now) (a .out .now) (ample-is (a .bytes .now) (a .used .now) (a .label .now) (a .link .now) (a .s0 .now) (a .s1 .now) (a .s2 .now) (a .s3 .now) ((c .before .before .before .before .before .before .before .before .before .before .before .before .before .before .before .before .long-enough) .result) _ ((c .before .before .before .before .before .before .before .before .before .before .before .before .before .before .before .before .long-enough) .ensures) (not-false ((c .before .before .before .before .before .before .before .before .before .before .before .before .before .before .before .before .long-enough) .result) ((c .before .before .before .before .before .before .before .before .before .before .before .before .before .before .before .if1) .left))) (sym ((c .before .before .before .before .before .before .before .before .before .before .before .before .before .before .in-use) .ensures) ∙ not-false ((c .before .before .before .before .before .before .before .before .before .before .before .before .before .before .in-use) .result) ((c .before .before .before .before .before .before .before .before .before .before .before .before .before .if2) .left)) ((c .before .before .before .before .before .before .before .before .before .before .before .before .signature) .result .now) ((c .before .before .before .before .before .before .before .before .before .before .before .before .signature) .ensures) (checked-taken ((c .before .before .before .before .before .before .before .before .before .before .before .before .signature) .result .now) (a .q .now) ((c .before .before .before .before .before .before .before .before .before .before .before .check) .result) ((c .before .before .before .before .before .before .before .before .before .before .before .check) .ensures) ((c .before .before .before .before .before .before .before .before .before .enum-told) .given .1)) ((c .before .before .before .before .before .before .before .before .term) .result .now) ((c .before .before .before .before .before .before .before .before .term) .ensures .0) ((c .before .before .before .before .before .before .before .is-term) .result) ((c .before .before .before .before .before .before .before .is-term) .ensures) (not-false ((c .before .before .before .before .before .before .before .is-term) .result) ((c .before .before .before .before .before .before .if3) .left)) _ ((c .before .before .before .before .«record») .result) Recorded.Long ((c .enum-told3) .given .1) ((c .before .before .before .before .«record») .ensures)
 
 same-length-4 : tie.Need-same-length-4
 same-length-4 c = search needs
 
 returns-8 : tie.Need-returns-8
-returns-8 c = let a = (c .before .before .before .before .before .before .before .before .before .before .before .before .before .before .before .before .before .before .before .before .before .before .before .before .before .before .before) .args in solving-late (held (a .bytes .now) (a .used .now) (a .label .now) (a .link .now) (a .s0 .now) (a .s1 .now) (a .s2 .now) (a .s3 .now)) (a .slot) (a .q .now) (a .out .now) _ ((c .before .before .before .before .before .before .before .before .before .before .before .before .signature) .result .now) ((c .before .before .before .before .before .before .before .before .term) .result .now) ((c .before .before .before .before .«record») .result) Recorded.Room ((c .before .before .before .before .before .before .before .before .before .before .before .before .signature) .ensures) ((c .before .before .before .before .before .before .before .before .term) .ensures .0) (unsolvable-none (held (a .bytes .now) (a .used .now) (a .label .now) (a .link .now) (a .s0 .now) (a .s1 .now) (a .s2 .now) (a .s3 .now)) (a .slot) (a .q .now) (ample-is (a .bytes .now) (a .used .now) (a .label .now) (a .link .now) (a .s0 .now) (a .s1 .now) (a .s2 .now) (a .s3 .now) ((c .before .before .before .before .before .before .before .before .before .before .before .before .before .before .before .before .long-enough) .result) _ ((c .before .before .before .before .before .before .before .before .before .before .before .before .before .before .before .before .long-enough) .ensures) (not-false ((c .before .before .before .before .before .before .before .before .before .before .before .before .before .before .before .before .long-enough) .result) ((c .before .before .before .before .before .before .before .before .before .before .before .before .before .before .before .if1) .left))) (sym ((c .before .before .before .before .before .before .before .before .before .before .before .before .before .before .in-use) .ensures) ∙ not-false ((c .before .before .before .before .before .before .before .before .before .before .before .before .before .before .in-use) .result) ((c .before .before .before .before .before .before .before .before .before .before .before .before .before .if2) .left)) ((c .before .before .before .before .before .before .before .before .before .before .before .before .signature) .result .now) ((c .before .before .before .before .before .before .before .before .before .before .before .before .signature) .ensures) (checked-taken ((c .before .before .before .before .before .before .before .before .before .before .before .before .signature) .result .now) (a .q .now) ((c .before .before .before .before .before .before .before .before .before .before .before .check) .result) ((c .before .before .before .before .before .before .before .before .before .before .before .check) .ensures) ((c .before .before .before .before .before .before .before .before .before .enum-told) .given .1)) ((c .before .before .before .before .before .before .before .before .term) .result .now) ((c .before .before .before .before .before .before .before .before .term) .ensures .0) ((c .before .before .before .before .before .before .before .is-term) .result) ((c .before .before .before .before .before .before .before .is-term) .ensures) (not-false ((c .before .before .before .before .before .before .before .is-term) .result) ((c .before .before .before .before .before .before .if3) .left))) ((c .enum-told4) .given .1) ((c .before .before .before .before .«record») .ensures)
+returns-8 c = let a = (c .before .before .before .before .before .before .before .before .before .before .before .before .before .before .before .before .before .before .before .before .before .before .before .before .before .before .before) .args in solving-solved (held (a .bytes .now) (a .used .now) (a .label .now) (a .link .now) (a .s0 .now) (a .s1 .now) (a .s2 .now) (a .s3 .now)) (a .slot) (a .q .now) (a .out .now) (ample-is (a .bytes .now) (a .used .now) (a .label .now) (a .link .now) (a .s0 .now) (a .s1 .now) (a .s2 .now) (a .s3 .now) ((c .before .before .before .before .before .before .before .before .before .before .before .before .before .before .before .before .long-enough) .result) _ ((c .before .before .before .before .before .before .before .before .before .before .before .before .before .before .before .before .long-enough) .ensures) (not-false ((c .before .before .before .before .before .before .before .before .before .before .before .before .before .before .before .before .long-enough) .result) ((c .before .before .before .before .before .before .before .before .before .before .before .before .before .before .before .if1) .left))) (sym ((c .before .before .before .before .before .before .before .before .before .before .before .before .before .before .in-use) .ensures) ∙ not-false ((c .before .before .before .before .before .before .before .before .before .before .before .before .before .before .in-use) .result) ((c .before .before .before .before .before .before .before .before .before .before .before .before .before .if2) .left)) ((c .before .before .before .before .before .before .before .before .before .before .before .before .signature) .result .now) ((c .before .before .before .before .before .before .before .before .before .before .before .before .signature) .ensures) (checked-taken ((c .before .before .before .before .before .before .before .before .before .before .before .before .signature) .result .now) (a .q .now) ((c .before .before .before .before .before .before .before .before .before .before .before .check) .result) ((c .before .before .before .before .before .before .before .before .before .before .before .check) .ensures) ((c .before .before .before .before .before .before .before .before .before .enum-told) .given .1)) ((c .before .before .before .before .before .before .before .before .term) .result .now) ((c .before .before .before .before .before .before .before .before .term) .ensures .0) ((c .before .before .before .before .before .before .before .is-term) .result) ((c .before .before .before .before .before .before .before .is-term) .ensures) (not-false ((c .before .before .before .before .before .before .before .is-term) .result) ((c .before .before .before .before .before .before .if3) .left)) _ ((c .before .before .before .before .«record») .result) Recorded.Room ((c .enum-told4) .given .1) ((c .before .before .before .before .«record») .ensures)
 
 pub solve-spec : {M : Type 1} → statement M
 solve-spec =

@@ -1,43 +1,40 @@
-use mathlib.Core.Path.{sym, _∙_}
 use borrow.Author.Tests.{not-true, not-false}
-use Rattle.layout.proofs.Laws.{long}
 use borrow.Author.Needs.{needs}
 use native.Mathlib.Omega.{arith}
-use mathlib.Core.Bool.{true, false}
-use Rattle.store.proofs.Public.{fair, ask-short, ask-bad, ask-room, ask-done}
+use Rattle.store.proofs.Public.{ample-not, ample-is, lengths, ask-short, ask-bad, ask-room, ask-done}
 use Rattle.store.proofs.with_key.Statement.{statement}
 use Rattle.store.proofs.with_key.Tie as tie
 
 long-enough-requires : tie.Need-long-enough-requires
-long-enough-requires c κs = search needs
+long-enough-requires c κs = tt
 
 returns : tie.Need-returns
-returns c = ask-short _ _ _ (fair _ ((c .before .long-enough) .result) false ((c .before .long-enough) .ensures) (not-true ((c .before .long-enough) .result) ((c .if1) .taken)))
+returns c = ask-short _ _ _ (ample-not _ _ ((c .before .long-enough) .ensures) ((c .if1) .taken))
 
 signature-requires : tie.Need-signature-requires
-signature-requires c κs = let L = long _ _ _ _ _ _ _ _ (sym ((c .before .long-enough) .ensures) ∙ not-false ((c .before .long-enough) .result) ((c .if1) .left)) in
+signature-requires c κs = let L = lengths _ _ _ _ _ _ _ _ _ ((c .before .long-enough) .ensures) ((c .if1) .left) in
     L .bytes
 
 is-key-requires : tie.Need-is-key-requires
-is-key-requires c κs = search needs
+is-key-requires c κs = tt
 
 returns-2 : tie.Need-returns-2
-returns-2 c = ask-bad _ _ _ _ _ (fair _ ((c .before .before .before .before .long-enough) .result) true ((c .before .before .before .before .long-enough) .ensures) (not-false ((c .before .before .before .before .long-enough) .result) ((c .before .before .before .if1) .left))) ((c .before .before .signature) .ensures) ((c .before .is-key) .ensures) (not-true ((c .before .is-key) .result) ((c .if2) .taken))
+returns-2 c = ask-bad _ _ _ _ _ (ample-is _ _ ((c .before .before .before .before .long-enough) .ensures) ((c .before .before .before .if1) .left)) ((c .before .before .signature) .ensures) ((c .before .is-key) .ensures) (not-true ((c .before .is-key) .result) ((c .if2) .taken))
 
 key-number-requires : tie.Need-key-number-requires
-key-number-requires c κs = let L = long _ _ _ _ _ _ _ _ (sym ((c .before .before .before .before .long-enough) .ensures) ∙ not-false ((c .before .before .before .before .long-enough) .result) ((c .before .before .before .if1) .left)) in
+key-number-requires c κs = let L = lengths _ _ _ _ _ _ _ _ _ ((c .before .before .before .before .long-enough) .ensures) ((c .before .before .before .if1) .left) in
     (L .links, L .labels)
 
 slots-used-requires : tie.Need-slots-used-requires
-slots-used-requires c κs = let L = long _ _ _ _ _ _ _ _ (sym ((c .before .before .before .before .before .long-enough) .ensures) ∙ not-false ((c .before .before .before .before .before .long-enough) .result) ((c .before .before .before .before .if1) .left)) in
+slots-used-requires c κs = let L = lengths _ _ _ _ _ _ _ _ _ ((c .before .before .before .before .before .long-enough) .ensures) ((c .before .before .before .before .if1) .left) in
     L .used
 
 meet-requires : tie.Need-meet-requires
-meet-requires c κs = let L = long _ _ _ _ _ _ _ _ (sym ((c .before .before .before .before .before .before .long-enough) .ensures) ∙ not-false ((c .before .before .before .before .before .before .long-enough) .result) ((c .before .before .before .before .before .if1) .left)) in
+meet-requires c κs = let L = lengths _ _ _ _ _ _ _ _ _ ((c .before .before .before .before .before .before .long-enough) .ensures) ((c .before .before .before .before .before .if1) .left) in
     record { l0 = L .l0; l1 = L .l1; l2 = L .l2; l3 = L .l3 }
 
 list-requires : tie.Need-list-requires
-list-requires c κs = search needs
+list-requires c κs = tt
 
 mul-if3 : tie.Need-mul-if3
 mul-if3 c = search needs
@@ -46,13 +43,13 @@ same-length : tie.Need-same-length
 same-length c = search needs
 
 returns-3 : tie.Need-returns-3
-returns-3 c = ask-room _ _ _ _ _ _ _ _ _ _ (fair _ ((c .before .before .before .before .before .before .before .before .before .before .before .before .long-enough) .result) true ((c .before .before .before .before .before .before .before .before .before .before .before .before .long-enough) .ensures) (not-false ((c .before .before .before .before .before .before .before .before .before .before .before .before .long-enough) .result) ((c .before .before .before .before .before .before .before .before .before .before .before .if1) .left))) ((c .before .before .before .before .before .before .before .before .before .before .signature) .ensures) ((c .before .before .before .before .before .before .before .before .before .is-key) .ensures) (not-false ((c .before .before .before .before .before .before .before .before .before .is-key) .result) ((c .before .before .before .before .before .before .before .before .if2) .left)) ((c .before .before .before .before .before .before .before .key-number) .ensures) ((c .before .before .before .before .before .before .slots-used) .ensures) ((c .before .before .before .before .before .meet) .ensures) ((c .before .before .before .list) .ensures .0) (omega (arith, (c .if3) .taken)) ((c .before .before .before .list) .ensures .2)
+returns-3 c = ask-room _ _ _ _ _ (ample-is _ _ ((c .before .before .before .before .before .before .before .before .before .before .before .before .long-enough) .ensures) ((c .before .before .before .before .before .before .before .before .before .before .before .if1) .left)) ((c .before .before .before .before .before .before .before .before .before .before .signature) .ensures) ((c .before .before .before .before .before .before .before .before .before .is-key) .ensures) _ _ _ _ _ (not-false ((c .before .before .before .before .before .before .before .before .before .is-key) .result) ((c .before .before .before .before .before .before .before .before .if2) .left)) ((c .before .before .before .before .before .before .before .key-number) .ensures) ((c .before .before .before .before .before .before .slots-used) .ensures) ((c .before .before .before .before .before .meet) .ensures) ((c .before .before .before .list) .ensures .0) ((c .before .before .before .list) .ensures .2) (omega (arith, (c .if3) .taken))
 
 same-length-2 : tie.Need-same-length-2
 same-length-2 c = search needs
 
 returns-4 : tie.Need-returns-4
-returns-4 c = ask-done _ _ _ _ _ _ _ _ _ _ (fair _ ((c .before .before .before .before .before .before .before .before .before .before .before .before .long-enough) .result) true ((c .before .before .before .before .before .before .before .before .before .before .before .before .long-enough) .ensures) (not-false ((c .before .before .before .before .before .before .before .before .before .before .before .before .long-enough) .result) ((c .before .before .before .before .before .before .before .before .before .before .before .if1) .left))) ((c .before .before .before .before .before .before .before .before .before .before .signature) .ensures) ((c .before .before .before .before .before .before .before .before .before .is-key) .ensures) (not-false ((c .before .before .before .before .before .before .before .before .before .is-key) .result) ((c .before .before .before .before .before .before .before .before .if2) .left)) ((c .before .before .before .before .before .before .before .key-number) .ensures) ((c .before .before .before .before .before .before .slots-used) .ensures) ((c .before .before .before .before .before .meet) .ensures) ((c .before .before .before .list) .ensures .0) (omega (arith, (c .if3) .left)) ((c .before .before .before .list) .ensures .2)
+returns-4 c = ask-done _ _ _ _ _ (ample-is _ _ ((c .before .before .before .before .before .before .before .before .before .before .before .before .long-enough) .ensures) ((c .before .before .before .before .before .before .before .before .before .before .before .if1) .left)) ((c .before .before .before .before .before .before .before .before .before .before .signature) .ensures) ((c .before .before .before .before .before .before .before .before .before .is-key) .ensures) _ _ _ _ _ (not-false ((c .before .before .before .before .before .before .before .before .before .is-key) .result) ((c .before .before .before .before .before .before .before .before .if2) .left)) ((c .before .before .before .before .before .before .before .key-number) .ensures) ((c .before .before .before .before .before .before .slots-used) .ensures) ((c .before .before .before .before .before .meet) .ensures) ((c .before .before .before .list) .ensures .0) ((c .before .before .before .list) .ensures .2) (omega (arith, (c .if3) .left))
 
 pub with-key-spec : {M : Type 1} → statement M
 with-key-spec =

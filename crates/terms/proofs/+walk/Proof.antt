@@ -4,7 +4,7 @@ use borrow.Author.Needs.{needs}
 use native.Mathlib.Omega.{arith}
 use lib.ListN.{length, drop, getD, length-drop}
 use Rattle.terms.specs.Terms.{span}
-use Rattle.terms.proofs.Laws.{span-zero, span-short, span-head, turn-short, turn-more}
+use Rattle.terms.proofs.TermLaws.{span-zero, span-short, span-head, turn-short, turn-more}
 use Rattle.laws.proofs.Lists.{tail-part}
 use borrow.Fn.Kinds.{In}
 use borrow.Fn.PlainCycle.{Measures, is, falls, and}
@@ -57,10 +57,10 @@ walk-sub-rest : (t : ℕ) → walk-lts.Need-sub-rest (R t) (walk-at t) walk.Post
 walk-sub-rest t c = omega arith
 
 walk-part-rest-start : (t : ℕ) → walk-lts.Need-part-rest-start (R t) (walk-at t) walk.Post walk-Inv-loop walk-μ-loop
-walk-part-rest-start t c = search needs
+walk-part-rest-start t c = omega arith
 
 walk-part-rest-end : (t : ℕ) → walk-lts.Need-part-rest-end (R t) (walk-at t) walk.Post walk-Inv-loop walk-μ-loop
-walk-part-rest-end t c = search needs
+walk-part-rest-end t c = omega arith
 
 walk-sub-walk : (t : ℕ) → walk-lts.Need-sub-walk (R t) (walk-at t) walk.Post walk-Inv-loop walk-μ-loop
 walk-sub-walk t c = omega arith

@@ -1,4 +1,4 @@
-use Rattle.terms.proofs.Laws.{turn-in}
+use Rattle.terms.proofs.TermLaws.{turn-in}
 use Rattle.laws.proofs.Lists.{tail-part}
 use Prim.Native.Nat.{_≤_, _-_, _+_, _<_}
 use mathlib.Core.Path.{_≡_, refl, sym, _∙_}
@@ -7,7 +7,7 @@ use native.Mathlib.Nat.{sub-zero}
 use borrow.Author.Needs.{needs}
 use lib.ListN.{length, drop, length-drop}
 use Rattle.terms.specs.Terms.{span}
-use Rattle.terms.proofs.Laws.{turn-more, turn-short, span-zero}
+use Rattle.terms.proofs.TermLaws.{turn-more, turn-short, span-zero}
 use Rattle.terms.proofs.arg_at.Statement.{statement}
 use Rattle.terms.proofs.arg_at.Tie as tie
 
@@ -24,10 +24,10 @@ sub-walk : tie.Need-sub-walk Inv-loop μ-loop
 sub-walk c = omega arith
 
 part-walk-start : tie.Need-part-walk-start Inv-loop μ-loop
-part-walk-start c = search needs
+part-walk-start c = omega arith
 
 part-walk-end : tie.Need-part-walk-end Inv-loop μ-loop
-part-walk-end c = search needs
+part-walk-end c = omega arith
 
 walk-requires : tie.Need-walk-requires Inv-loop μ-loop
 walk-requires c κs = rw tail-part (omega (arith, length-drop (c .before .before .loop .used) (c .before .before .before .before .before .args .t .now)))

@@ -5,28 +5,28 @@ use native.Mathlib.Nat.{add-sub-cancel-left}
 use lib.ListN.{length, drop, take, length-drop}
 use borrow.Author.Tests.{eq-eqb, ne-eqb}
 use Rattle.terms.specs.Terms.{argBytes, argRefusal}
-use Rattle.terms.proofs.Laws.{arg-none, arg-in, args-within}
+use Rattle.terms.proofs.TermLaws.{arg-none, arg-in, args-within}
 use Rattle.laws.proofs.Lists.{tail-part}
 use borrow.Author.Needs.{needs}
 use Rattle.terms.proofs.argument.Statement.{statement}
 use Rattle.terms.proofs.argument.Tie as tie
 
 argument-refusal-requires : tie.Need-argument-refusal-requires
-argument-refusal-requires c κs = search needs
+argument-refusal-requires c κs = tt
 
 sub-result : tie.Need-sub-result
-sub-result c = search needs
+sub-result c = omega arith
 
 part-result-start : tie.Need-part-result-start
-part-result-start c = search needs
+part-result-start c = omega arith
 
 part-result-end : tie.Need-part-result-end
-part-result-end c = search needs
+part-result-end c = omega arith
 
 returns : tie.Need-returns
 unfolding argBytes
 returns c = let e : argRefusal _ _ _ ≡ 0 → ⊥ = λ h. c .before .if1 .taken (c .before .before .argument-refusal .ensures ∙ h) in
-    simp (ne-eqb _ _ e)
+    rw (ne-eqb _ _ e)
 
 sub-arg-at : tie.Need-sub-arg-at
 sub-arg-at c = arg-none _ _ _ (sym (c .before .argument-refusal .ensures) ∙ c .if1 .left) .1
@@ -45,7 +45,7 @@ part-walk-start : tie.Need-part-walk-start
 part-walk-start c = sub-walk c
 
 part-walk-end : tie.Need-part-walk-end
-part-walk-end c = search needs
+part-walk-end c = omega arith
 
 walk-requires : tie.Need-walk-requires
 walk-requires c κs = let a = c .before .before .before .before .before .before .args in
@@ -56,10 +56,10 @@ add-to : tie.Need-add-to
 add-to c = omega (arith, arg-in _ _ _ _ _ (sym (c .before .before .before .before .argument-refusal .ensures) ∙ c .before .before .before .if1 .left) (c .before .before .arg-at .ensures) (c .walk .ensures) .0)
 
 sub-result-2 : tie.Need-sub-result-2
-sub-result-2 c = search needs
+sub-result-2 c = omega arith
 
 part-result-start-2 : tie.Need-part-result-start-2
-part-result-start-2 c = search needs
+part-result-start-2 c = omega arith
 
 part-result-end-2 : tie.Need-part-result-end-2
 part-result-end-2 c = omega (arith, arg-in _ _ _ _ _ (sym (c .before .before .before .before .argument-refusal .ensures) ∙ c .before .before .before .if1 .left) (c .before .before .arg-at .ensures) (c .walk .ensures) .0)

@@ -1,4 +1,4 @@
-use Rattle.terms.proofs.Laws.{arg-none, args-within}
+use Rattle.terms.proofs.TermLaws.{arg-none, args-within}
 use Rattle.terms.specs.Terms.{argStart, argRefusal}
 use borrow.Author.Tests.{eq-eqb, ne-eqb}
 use native.Mathlib.Omega.{arith}
@@ -9,12 +9,12 @@ use Rattle.terms.proofs.argument_start.Statement.{statement}
 use Rattle.terms.proofs.argument_start.Tie as tie
 
 argument-refusal-requires : tie.Need-argument-refusal-requires
-argument-refusal-requires c κs = search needs
+argument-refusal-requires c κs = tt
 
 returns : tie.Need-returns
 unfolding argStart
 returns c = let e : argRefusal _ _ _ ≡ 0 → ⊥ = λ h. (c .if1) .taken ((c .before .argument-refusal) .ensures ∙ h) in
-    simp (ne-eqb _ _ e)
+    rw (ne-eqb _ _ e)
 
 sub-arg-at : tie.Need-sub-arg-at
 sub-arg-at c = arg-none _ _ _ (sym ((c .before .argument-refusal) .ensures) ∙ (c .if1) .left) .1

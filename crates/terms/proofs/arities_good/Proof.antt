@@ -4,7 +4,7 @@ use native.Mathlib.Omega.{arith}
 use lib.ListN.{length, drop, getD}
 use borrow.Author.Tests.{le-leb, lt-leb}
 use Rattle.terms.specs.Terms.{aritiesGood}
-use Rattle.terms.proofs.Laws.{arities-step, arities-end}
+use Rattle.terms.proofs.TermLaws.{arities-step, arities-end}
 use Rattle.terms.proofs.arities_good.Statement.{statement}
 use Rattle.terms.proofs.arities_good.Tie as tie
 

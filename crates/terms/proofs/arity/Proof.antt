@@ -6,13 +6,13 @@ use Rattle.terms.proofs.arity.Statement.{statement}
 use Rattle.terms.proofs.arity.Tie as tie
 
 shared-slice-read-wide : tie.Need-shared-slice-read-wide
-shared-slice-read-wide c = search needs
+shared-slice-read-wide c = omega arith
 
 wide-requires : tie.Need-wide-requires
-wide-requires c κs = search needs
+wide-requires c κs = tt
 
 returns : tie.Need-returns
-returns c = search needs
+returns c = (c .wide .ensures .0, c .wide .ensures .1)
 
 returns-2 : tie.Need-returns-2
 returns-2 c = (sym (List·getD-eq-default (c .before .before .args .sig .now) 0 (c .if1 .left)), omega arith)

@@ -1,14 +1,14 @@
 use native.Mathlib.Omega.{arith}
-use Rattle.terms.proofs.Laws.{brings-symbol, brings-variable, brings-low, brings-high}
+use Rattle.terms.proofs.TermLaws.{brings-symbol, brings-variable, brings-low, brings-high}
 use borrow.Author.Needs.{needs}
 use Rattle.terms.proofs.brings.Statement.{statement}
 use Rattle.terms.proofs.brings.Tie as tie
 
 shared-slice-read-wide : tie.Need-shared-slice-read-wide
-shared-slice-read-wide c = search needs
+shared-slice-read-wide c = omega arith
 
 wide-requires : tie.Need-wide-requires
-wide-requires c κs = search needs
+wide-requires c κs = tt
 
 returns : tie.Need-returns
 returns c = let a = ((c .before .before .before .before) .args) in (brings-symbol (a .sig .now) (a .x) _ ((c .before .before .if1) .taken) ((c .wide) .ensures .0), omega arith)

@@ -5,16 +5,16 @@ use Rattle.terms.proofs.check.Statement.{statement}
 use Rattle.terms.proofs.check.Tie as tie
 
 is-term-requires : tie.Need-is-term-requires
-is-term-requires c κs = search needs
+is-term-requires c κs = tt
 
 returns : tie.Need-returns
 returns c = sym (eqb-true _ _ (sym ((c .before .is-term) .ensures) ∙ (c .if1) .taken))
 
 refused-term-requires : tie.Need-refused-term-requires
-refused-term-requires c κs = search needs
+refused-term-requires c κs = tt
 
 returns-2 : tie.Need-returns-2
-returns-2 c = search needs
+returns-2 c = c .refused-term .ensures
 
 pub check-spec : {M : Type 1} → statement M
 check-spec = tie.close (tie.spec is-term-requires returns refused-term-requires returns-2)

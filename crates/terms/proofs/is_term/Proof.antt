@@ -1,7 +1,7 @@
 use native.Mathlib.Omega.{arith}
 use Prim.Native.Nat.{_-_}
 use lib.ListN.{length}
-use Rattle.terms.proofs.Laws.{untaken, odd-out, Passing, passing-start, passing-turn, passing-closed, passing-end}
+use Rattle.terms.proofs.TermLaws.{untaken, odd-out, Passing, passing-start, passing-turn, passing-closed, passing-end}
 use Rattle.terms.proofs.is_term.Statement.{statement}
 use Rattle.terms.proofs.is_term.Tie as tie
 

@@ -9,7 +9,7 @@ use native.Mathlib.Omega.{arith}
 use borrow.Author.Needs.{needs}
 use lib.ListN.{length, drop, getD}
 use Rattle.terms.specs.Terms.{itemsGood}
-use Rattle.terms.proofs.Laws.{items-step, items-short}
+use Rattle.terms.proofs.TermLaws.{items-step, items-short}
 use Rattle.laws.proofs.Lists.{tail-part}
 use Rattle.terms.proofs.items_good.Statement.{statement}
 use Rattle.terms.proofs.items_good.Tie as tie
@@ -40,10 +40,10 @@ sub-rest : tie.Need-sub-rest Inv-loop μ-loop
 sub-rest c = omega arith
 
 part-rest-start : tie.Need-part-rest-start Inv-loop μ-loop
-part-rest-start c = search needs
+part-rest-start c = omega arith
 
 part-rest-end : tie.Need-part-rest-end Inv-loop μ-loop
-part-rest-end c = search needs
+part-rest-end c = omega arith
 
 loop-less : tie.Need-loop-less Inv-loop μ-loop
 loop-less c = let l = c .before .before .before .before .before .loop in

@@ -5,6 +5,7 @@ use lib.ListN.{length, getD}
 use Rattle.unify.specs.Run.{Way, way-more}
 use Rattle.unify.proofs.deref.Statement.{statement}
 use Rattle.unify.proofs.deref.Tie as tie
+use Rattle.laws.specs.Sizes.{variableBase}
 
 abbrev Inv-loop : tie.InvT-loop
 Inv-loop tab pool p r₀ r = (r < length pool) × Way tab pool p r
@@ -50,8 +51,8 @@ returns-2 c = let s = (c .before .before .before .before .before .before .before
     let l = (c .before .before .before .before .before .before) .loop in
     let r = l .r in
     let code : (c .before .before .before .before .wide16) .result ≡ getD pool r 0 = (c .before .before .before .before .wide16) .ensures .0 in
-    let x = getD pool r 0 - 32768 in
-    let ent : (c .before .wide) .result ≡ getD tab x 0 = (c .before .wide) .ensures .0 ∙ ap (λ (k : ℕ). getD tab (k - 32768) 0) code in
+    let x = getD pool r 0 - variableBase in
+    let ent : (c .before .wide) .result ≡ getD tab x 0 = (c .before .wide) .ensures .0 ∙ ap (λ (k : ℕ). getD tab (k - variableBase) 0) code in
     record { low = l .inv .0; same = l .inv .1; stops = λ h. (omega (arith, c .if2 .taken)) }
 
 sub-r : tie.Need-sub-r Inv-loop μ-loop
@@ -64,8 +65,8 @@ loop-less c = let s = (c .before .before .before .before .before .before .before
     let l = (c .before .before .before .before .before .before) .loop in
     let r = l .r in
     let code : (c .before .before .before .before .wide16) .result ≡ getD pool r 0 = (c .before .before .before .before .wide16) .ensures .0 in
-    let x = getD pool r 0 - 32768 in
-    let ent : (c .before .wide) .result ≡ getD tab x 0 = (c .before .wide) .ensures .0 ∙ ap (λ (k : ℕ). getD tab (k - 32768) 0) code in
+    let x = getD pool r 0 - variableBase in
+    let ent : (c .before .wide) .result ≡ getD tab x 0 = (c .before .wide) .ensures .0 ∙ ap (λ (k : ℕ). getD tab (k - variableBase) 0) code in
     let e = (c .before .wide) .result in
     let q : getD tab x 0 ≡ suc (e - 1) = omega (arith, c .if2 .left) in
     omega (arith, s .pre .0 .down x (e - 1) q)
@@ -77,8 +78,8 @@ loop-again c = let s = (c .before .before .before .before .before .before .befor
     let l = (c .before .before .before .before .before .before) .loop in
     let r = l .r in
     let code : (c .before .before .before .before .wide16) .result ≡ getD pool r 0 = (c .before .before .before .before .wide16) .ensures .0 in
-    let x = getD pool r 0 - 32768 in
-    let ent : (c .before .wide) .result ≡ getD tab x 0 = (c .before .wide) .ensures .0 ∙ ap (λ (k : ℕ). getD tab (k - 32768) 0) code in
+    let x = getD pool r 0 - variableBase in
+    let ent : (c .before .wide) .result ≡ getD tab x 0 = (c .before .wide) .ensures .0 ∙ ap (λ (k : ℕ). getD tab (k - variableBase) 0) code in
     let e = (c .before .wide) .result in
     let q : getD tab x 0 ≡ suc (e - 1) = omega (arith, c .if2 .left) in
     (omega (arith, s .pre .0 .inside x), way-more tab pool (s .args .p) r (e - 1) (l .inv .0) (omega arith) (s .pre .2 r (l .inv .0)) q (l .inv .1))

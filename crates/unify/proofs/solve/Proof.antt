@@ -3,7 +3,7 @@ use mathlib.Core.Path.{sym}
 use native.Mathlib.Omega.{arith}
 use lib.ListN.{length}
 use lib.Seq.{length-take-le}
-use Rattle.unify.specs.Bytes.{loaded-cut, ready, answer}
+use Rattle.unify.specs.Pool.{loaded-cut, ready, answer}
 use borrow.Author.Needs.{needs}
 use Rattle.unify.proofs.solve.Statement.{statement}
 use Rattle.unify.proofs.solve.Tie as tie

@@ -3,7 +3,7 @@ use mathlib.Core.Path.{_≡_}
 use native.Mathlib.Omega.{arith}
 use lib.ListN.{length, getD, length-set}
 use Rattle.unify.specs.Masks.{one-shl}
-use Rattle.unify.proofs.Laws.{filled}
+use Rattle.unify.proofs.UnifyLaws.{filled}
 use Rattle.unify.proofs.start.Statement.{statement}
 use Rattle.unify.proofs.start.Tie as tie
 

@@ -1,4 +1,4 @@
-use Rattle.unify.specs.Bytes.{decided}
+use Rattle.unify.specs.Pool.{decided}
 use borrow.Author.Needs.{needs}
 use Rattle.unify.proofs.unifiable.Statement.{statement}
 use Rattle.unify.proofs.unifiable.Tie as tie

@@ -10,7 +10,7 @@ use Rattle.unify.specs.declared.Face.{Face}
 use Rattle.unify.specs.declared.Face.the-variants.{Same, Clash, Bind, Merge}
 use Rattle.unify.specs.Run.{Run, Led, run-start, run-end, run-same, run-clash, u-low, x-low, run-occurs, run-bind}
 use Rattle.unify.specs.Arms.{run-merged, merged-falls}
-use Rattle.unify.proofs.Laws.{zeros-at}
+use Rattle.unify.proofs.UnifyLaws.{zeros-at}
 use Rattle.unify.proofs.unify.Statement.{statement}
 use Rattle.unify.proofs.unify.Tie as tie
 

@@ -34,7 +34,7 @@ loop-again : tie.Need-loop-again Inv-loop μ-loop
 loop-again c = omega arith
 
 returns : tie.Need-returns Inv-loop μ-loop
-returns c = tt
+returns c = omega arith
 
 pub number-spec : {M : Type 1} → statement M
 number-spec =

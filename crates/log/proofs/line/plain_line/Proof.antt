@@ -1,6 +1,6 @@
 use native.Mathlib.Omega.{arith}
 use mathlib.Core.Path.{refl}
-use Rattle.log.proofs.Laws.{put-within, put-length, put-then}
+use Rattle.log.proofs.LogLaws.{put-within, put-length, put-then}
 use Rattle.log.specs.Lines.{plainLine}
 use Rattle.log.proofs.line.plain_line.Statement.{statement}
 use Rattle.log.proofs.line.plain_line.Tie as tie

@@ -1,6 +1,6 @@
 use native.Mathlib.Omega.{arith}
 use mathlib.Core.Path.{refl}
-use Rattle.log.proofs.Laws.{put-within, put-length, put-then}
+use Rattle.log.proofs.LogLaws.{put-within, put-length, put-then}
 use Rattle.log.proofs.line.put_head.Statement.{statement}
 use Rattle.log.proofs.line.put_head.Tie as tie
 

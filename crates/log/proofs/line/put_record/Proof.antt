@@ -1,4 +1,4 @@
-use Rattle.log.proofs.Laws.{put-within, put-length, put-none, put-then, record-none, record-some}
+use Rattle.log.proofs.LogLaws.{put-within, put-length, put-none, put-then, record-none, record-some}
 use Rattle.log.proofs.line.put_record.Statement.{statement}
 use Rattle.log.proofs.line.put_record.Tie as tie
 

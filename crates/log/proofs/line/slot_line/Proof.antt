@@ -1,4 +1,4 @@
-use Rattle.log.proofs.Laws.{put-then, put-within, put-length, put-after}
+use Rattle.log.proofs.LogLaws.{put-then, put-within, put-length, put-after}
 use Rattle.log.specs.Lines.{ok, figure, slotLine}
 use Rattle.log.proofs.line.slot_line.Statement.{statement}
 use Rattle.log.proofs.line.slot_line.Tie as tie

@@ -1,4 +1,4 @@
-use Rattle.log.proofs.Laws.{put-within, put-length, put-then, put-after}
+use Rattle.log.proofs.LogLaws.{put-within, put-length, put-then, put-after}
 use Rattle.log.specs.Lines.{ok, figure, solvedLine}
 use Rattle.log.proofs.line.solved_line.Statement.{statement}
 use Rattle.log.proofs.line.solved_line.Tie as tie

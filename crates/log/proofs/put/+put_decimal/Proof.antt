@@ -2,7 +2,7 @@ use native.Mathlib.Omega.{arith}
 use Prim.Native.Nat.{ℕ, _<_}
 use borrow.Fn.Kinds.{In}
 use borrow.Fn.PlainCycle.{Measures, is, falls, and}
-use Rattle.log.proofs.Laws.{put-then, put-length, put-within, decimal-one, decimal-more}
+use Rattle.log.proofs.LogLaws.{put-then, put-length, put-within, decimal-one, decimal-more}
 use Rattle.log.proofs.put.put_decimal.Reads as put-decimal
 use Rattle.log.proofs.put.put_decimal.Kinds as put-decimal-kinds
 use Rattle.log.proofs.put.+put_decimal.Lts-put_decimal as put-decimal-lts

@@ -1,5 +1,5 @@
 use borrow.Author.Needs.{needs}
-use Rattle.log.proofs.Laws.{put-one, put-full}
+use Rattle.log.proofs.LogLaws.{put-one, put-full}
 use Rattle.log.proofs.put.put_byte.Statement.{statement}
 use Rattle.log.proofs.put.put_byte.Tie as tie
 

@@ -1,4 +1,4 @@
-use Rattle.log.proofs.Laws.{put-within, put-length, put-then}
+use Rattle.log.proofs.LogLaws.{put-within, put-length, put-then}
 use Rattle.log.proofs.put.put_figure.Statement.{statement}
 use Rattle.log.proofs.put.put_figure.Tie as tie
 

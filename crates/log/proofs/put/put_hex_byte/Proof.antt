@@ -1,5 +1,5 @@
 use borrow.Author.Needs.{needs}
-use Rattle.log.proofs.Laws.{put-within, put-length, put-then}
+use Rattle.log.proofs.LogLaws.{put-within, put-length, put-then}
 use Rattle.log.specs.Lines.{hex}
 use Rattle.log.proofs.put.put_hex_byte.Statement.{statement}
 use Rattle.log.proofs.put.put_hex_byte.Tie as tie

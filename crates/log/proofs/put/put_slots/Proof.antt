@@ -2,7 +2,7 @@ use borrow.Author.Needs.{needs}
 use native.Mathlib.Omega.{arith}
 use lib.ListN.{length, length-drop}
 use Rattle.laws.proofs.Lists.{tail-part}
-use Rattle.log.proofs.Laws.{Listing, listing-start, listing-turn, listing-end, put-length, put-within}
+use Rattle.log.proofs.LogLaws.{Listing, listing-start, listing-turn, listing-end, put-length, put-within}
 use Rattle.log.proofs.put.put_slots.Statement.{statement}
 use Rattle.log.proofs.put.put_slots.Tie as tie
 

@@ -12,10 +12,7 @@ mul-n : tie.Need-mul-n
 mul-n c = search needs
 
 slice-aggregate-found-line : tie.Need-slice-aggregate-found-line
-slice-aggregate-found-line c = search needs
-
-slice-aggregate-found-line-2 : tie.Need-slice-aggregate-found-line-2
-slice-aggregate-found-line-2 c = sym (length-take-le _ _ (omega arith))
+slice-aggregate-found-line c = sym (length-take-le _ _ (omega arith))
 
 found-line-requires : tie.Need-found-line-requires
 found-line-requires c κs = search needs
@@ -33,7 +30,6 @@ say-found-spec =
     least-requires
     mul-n
     slice-aggregate-found-line
-    slice-aggregate-found-line-2
     found-line-requires
     same-length
     returns)

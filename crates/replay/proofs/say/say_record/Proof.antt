@@ -9,10 +9,7 @@ least-requires : tie.Need-least-requires
 least-requires c κs = search needs
 
 slice-aggregate-solved-line : tie.Need-slice-aggregate-solved-line
-slice-aggregate-solved-line c = search needs
-
-slice-aggregate-solved-line-2 : tie.Need-slice-aggregate-solved-line-2
-slice-aggregate-solved-line-2 c = sym (length-take-le _ _ (omega arith))
+slice-aggregate-solved-line c = sym (length-take-le _ _ (omega arith))
 
 solved-line-requires : tie.Need-solved-line-requires
 solved-line-requires c κs = search needs
@@ -26,10 +23,4 @@ returns c = search needs
 pub say-record-spec : {M : Type 1} → statement M
 say-record-spec =
     tie.close
-    (tie.spec
-    least-requires
-    slice-aggregate-solved-line
-    slice-aggregate-solved-line-2
-    solved-line-requires
-    same-length
-    returns)
+    (tie.spec least-requires slice-aggregate-solved-line solved-line-requires same-length returns)

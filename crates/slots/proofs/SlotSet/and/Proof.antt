@@ -5,7 +5,7 @@ use native.Mathlib.Omega.{arith}
 use lib.ListN.{length, take, getD, length-set}
 use lib.Seq.{take-all}
 use Rattle.slots.specs.Slots.{both}
-use Rattle.slots.proofs.Laws.{words-8, length-both, getD-both}
+use Rattle.slots.proofs.SlotLaws.{words-8, length-both, getD-both}
 use Rattle.laws.proofs.Lists.{fill-turn}
 use Rattle.slots.proofs.SlotSet.and.Statement.{statement}
 use Rattle.slots.proofs.SlotSet.and.Tie as tie

@@ -1,47 +1,59 @@
-use mathlib.Core.Path.{refl}
+use Prim.Native.Nat.{ℕ, _≤_, _-_, _+_, _<_, _^_}
+use mathlib.Core.Path.{_≡_, refl}
+use native.Mathlib.Omega.{arith}
+use lib.ListN.{length, take, getD, length-set}
 use Rattle.slots.specs.Slots.{others, words8}
-use borrow.Author.Needs.{needs}
+use Rattle.slots.proofs.SlotLaws.{words-turn, words-end}
 use Rattle.slots.proofs.SlotSet.complement.Statement.{statement}
 use Rattle.slots.proofs.SlotSet.complement.Tie as tie
 
-array-read-t5 : tie.Need-array-read-t5
-array-read-t5 c = search needs
+abbrev Inv-loop : tie.InvT-loop
+Inv-loop self rest₀ i₀ rest i = (i ≤ 8) × (length rest ≡ 8) × (take i rest ≡ take i (words8 (λ j. 2 ^ 64 - 1 - getD (self .words) j 0)))
 
-array-read-t9 : tie.Need-array-read-t9
-array-read-t9 c = search needs
+abbrev μ-loop : tie.MeasureT-loop
+μ-loop self rest₀ i₀ rest i = 8 - i
 
-array-read-t13 : tie.Need-array-read-t13
-array-read-t13 c = search needs
+loop-holds : tie.Need-loop-holds Inv-loop μ-loop
+loop-holds c = (omega arith, refl, refl)
 
-array-read-t17 : tie.Need-array-read-t17
-array-read-t17 c = search needs
+mul-rest : tie.Need-mul-rest Inv-loop μ-loop
+mul-rest c = omega arith
 
-array-read-t21 : tie.Need-array-read-t21
-array-read-t21 c = search needs
+element-copy-out-rest : tie.Need-element-copy-out-rest Inv-loop μ-loop
+element-copy-out-rest c = omega arith
 
-array-read-t25 : tie.Need-array-read-t25
-array-read-t25 c = search needs
+mul-rest-2 : tie.Need-mul-rest-2 Inv-loop μ-loop
+mul-rest-2 c = omega arith
 
-array-read-t29 : tie.Need-array-read-t29
-array-read-t29 c = search needs
+array-write-rest : tie.Need-array-write-rest Inv-loop μ-loop
+array-write-rest c = omega arith
 
-array-read-t33 : tie.Need-array-read-t33
-array-read-t33 c = search needs
+add-i : tie.Need-add-i Inv-loop μ-loop
+add-i c = omega arith
 
-returns : tie.Need-returns
-unfolding others words8
-returns c = refl
+loop-less : tie.Need-loop-less Inv-loop μ-loop
+loop-less c = omega arith
+
+loop-again : tie.Need-loop-again Inv-loop μ-loop
+loop-again c = let l = c .before .before .loop in
+    (omega arith, simp length-set (l .inv .1), words-turn _ (l .rest) (l .i) _ (omega arith) (l .inv .1) refl (l .inv .2))
+
+returns : tie.Need-returns Inv-loop μ-loop
+unfolding others
+returns c = let l = c .before .loop in words-end _ (l .rest) (l .i) (omega arith) (l .inv .1) (l .inv .2)
 
 pub complement-spec : {M : Type 1} → statement M
 complement-spec =
     tie.close
     (tie.spec
-    array-read-t5
-    array-read-t9
-    array-read-t13
-    array-read-t17
-    array-read-t21
-    array-read-t25
-    array-read-t29
-    array-read-t33
+    Inv-loop
+    μ-loop
+    loop-holds
+    mul-rest
+    element-copy-out-rest
+    mul-rest-2
+    array-write-rest
+    add-i
+    loop-less
+    loop-again
     returns)

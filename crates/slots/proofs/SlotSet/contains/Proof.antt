@@ -4,7 +4,7 @@ use borrow.Author.Needs.{needs}
 use borrow.Author.Tests.{ne-eqb}
 use Rattle.slots.specs.Slots.{has}
 use Rattle.slots.specs.Sets.{has-beyond}
-use Rattle.slots.proofs.Laws.{words-8}
+use Rattle.slots.proofs.SlotLaws.{words-8}
 use Rattle.slots.proofs.SlotSet.contains.Statement.{statement}
 use Rattle.slots.proofs.SlotSet.contains.Tie as tie
 

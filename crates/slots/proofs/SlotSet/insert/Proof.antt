@@ -4,7 +4,7 @@ use mathlib.Core.Path.{sym}
 use Rattle.laws.specs.Digits.{one-shl}
 use Rattle.slots.specs.Slots.{inserted}
 use Rattle.slots.specs.Sets.{insert-beyond}
-use Rattle.slots.proofs.Laws.{words-8}
+use Rattle.slots.proofs.SlotLaws.{words-8}
 use borrow.Author.Needs.{needs}
 use Rattle.slots.proofs.SlotSet.insert.Statement.{statement}
 use Rattle.slots.proofs.SlotSet.insert.Tie as tie

@@ -1,47 +1,52 @@
-use mathlib.Core.Path.{refl}
-use Rattle.slots.specs.Slots.{noneIn}
-use borrow.Author.Needs.{needs}
+use Prim.Native.Nat.{ℕ, _≤_, _-_, _+_, _<_}
+use mathlib.Core.Path.{_≡_, refl}
+use native.Mathlib.Omega.{arith}
+use Rattle.slots.proofs.SlotLaws.{together, together-turn, together-all}
 use Rattle.slots.proofs.SlotSet.is_empty.Statement.{statement}
 use Rattle.slots.proofs.SlotSet.is_empty.Tie as tie
 
-array-read-result : tie.Need-array-read-result
-array-read-result c = search needs
+abbrev Inv-loop : tie.InvT-loop
+Inv-loop self any₀ i₀ any i = (0 < i) × (i ≤ 8) × (any ≡ together (self .words) i)
 
-array-read-result-2 : tie.Need-array-read-result-2
-array-read-result-2 c = search needs
+abbrev μ-loop : tie.MeasureT-loop
+μ-loop self any₀ i₀ any i = 8 - i
 
-array-read-result-3 : tie.Need-array-read-result-3
-array-read-result-3 c = search needs
+element-copy-out-any : tie.Need-element-copy-out-any Inv-loop μ-loop
+element-copy-out-any c = omega arith
 
-array-read-result-4 : tie.Need-array-read-result-4
-array-read-result-4 c = search needs
+loop-holds : tie.Need-loop-holds Inv-loop μ-loop
+unfolding together
+loop-holds c = (omega arith, omega arith, refl)
 
-array-read-result-5 : tie.Need-array-read-result-5
-array-read-result-5 c = search needs
+mul-any : tie.Need-mul-any Inv-loop μ-loop
+mul-any c = omega arith
 
-array-read-result-6 : tie.Need-array-read-result-6
-array-read-result-6 c = search needs
+element-copy-out-any-2 : tie.Need-element-copy-out-any-2 Inv-loop μ-loop
+element-copy-out-any-2 c = omega arith
 
-array-read-result-7 : tie.Need-array-read-result-7
-array-read-result-7 c = search needs
+add-i : tie.Need-add-i Inv-loop μ-loop
+add-i c = omega arith
 
-array-read-result-8 : tie.Need-array-read-result-8
-array-read-result-8 c = search needs
+loop-less : tie.Need-loop-less Inv-loop μ-loop
+loop-less c = omega arith
 
-returns : tie.Need-returns
-unfolding noneIn
-returns c = refl
+loop-again : tie.Need-loop-again Inv-loop μ-loop
+loop-again c = let l = c .before .before .loop in (omega arith, omega arith, together-turn _ (l .i) _ (l .inv .0) (l .inv .2))
+
+returns : tie.Need-returns Inv-loop μ-loop
+returns c = let l = c .before .loop in together-all _ (l .any) (l .i) (omega arith) (l .inv .2)
 
 pub is-empty-spec : {M : Type 1} → statement M
 is-empty-spec =
     tie.close
     (tie.spec
-    array-read-result
-    array-read-result-2
-    array-read-result-3
-    array-read-result-4
-    array-read-result-5
-    array-read-result-6
-    array-read-result-7
-    array-read-result-8
+    Inv-loop
+    μ-loop
+    element-copy-out-any
+    loop-holds
+    mul-any
+    element-copy-out-any-2
+    add-i
+    loop-less
+    loop-again
     returns)

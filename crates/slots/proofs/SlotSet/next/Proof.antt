@@ -3,7 +3,7 @@ use mathlib.Core.Path.{_≡_, refl, sym, ap, _∙_}
 use native.Mathlib.Omega.{arith}
 use native.Mathlib.Decide.{decLt}
 use Rattle.slots.specs.Slots.{has, Next}
-use Rattle.slots.proofs.Laws.{next-found, next-pass}
+use Rattle.slots.proofs.SlotLaws.{next-found, next-pass}
 use Rattle.slots.proofs.SlotSet.next.Statement.{statement}
 use Rattle.slots.proofs.SlotSet.next.Tie as tie
 

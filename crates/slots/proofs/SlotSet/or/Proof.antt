@@ -1,79 +1,69 @@
-use mathlib.Core.Path.{refl}
+use Prim.Native.Nat.{ℕ, _≤_, _-_, _+_, _<_}
+use mathlib.Core.Path.{_≡_, refl}
+use native.Mathlib.Omega.{arith}
+use lib.Bits.{bitOr}
+use lib.ListN.{length, take, getD, length-set}
 use Rattle.slots.specs.Slots.{either, words8}
-use borrow.Author.Needs.{needs}
+use Rattle.slots.proofs.SlotLaws.{words-turn, words-end}
 use Rattle.slots.proofs.SlotSet.or.Statement.{statement}
 use Rattle.slots.proofs.SlotSet.or.Tie as tie
 
-array-read-t7 : tie.Need-array-read-t7
-array-read-t7 c = search needs
+abbrev Inv-loop : tie.InvT-loop
+Inv-loop self other out₀ i₀ out i =
+    (i ≤ 8) × (length out ≡ 8) × (take i out ≡ take i (words8 (λ j. bitOr (getD (self .words) j 0) (getD (other .words) j 0))))
 
-array-read-t10 : tie.Need-array-read-t10
-array-read-t10 c = search needs
+abbrev μ-loop : tie.MeasureT-loop
+μ-loop self other out₀ i₀ out i = 8 - i
 
-array-read-t14 : tie.Need-array-read-t14
-array-read-t14 c = search needs
+loop-holds : tie.Need-loop-holds Inv-loop μ-loop
+loop-holds c = (omega arith, refl, refl)
 
-array-read-t17 : tie.Need-array-read-t17
-array-read-t17 c = search needs
+mul-out : tie.Need-mul-out Inv-loop μ-loop
+mul-out c = omega arith
 
-array-read-t21 : tie.Need-array-read-t21
-array-read-t21 c = search needs
+element-copy-out-out : tie.Need-element-copy-out-out Inv-loop μ-loop
+element-copy-out-out c = omega arith
 
-array-read-t24 : tie.Need-array-read-t24
-array-read-t24 c = search needs
+mul-out-2 : tie.Need-mul-out-2 Inv-loop μ-loop
+mul-out-2 c = omega arith
 
-array-read-t28 : tie.Need-array-read-t28
-array-read-t28 c = search needs
+element-copy-out-out-2 : tie.Need-element-copy-out-out-2 Inv-loop μ-loop
+element-copy-out-out-2 c = omega arith
 
-array-read-t31 : tie.Need-array-read-t31
-array-read-t31 c = search needs
+mul-out-3 : tie.Need-mul-out-3 Inv-loop μ-loop
+mul-out-3 c = omega arith
 
-array-read-t35 : tie.Need-array-read-t35
-array-read-t35 c = search needs
+array-write-out : tie.Need-array-write-out Inv-loop μ-loop
+array-write-out c = omega arith
 
-array-read-t38 : tie.Need-array-read-t38
-array-read-t38 c = search needs
+add-i : tie.Need-add-i Inv-loop μ-loop
+add-i c = omega arith
 
-array-read-t42 : tie.Need-array-read-t42
-array-read-t42 c = search needs
+loop-less : tie.Need-loop-less Inv-loop μ-loop
+loop-less c = omega arith
 
-array-read-t45 : tie.Need-array-read-t45
-array-read-t45 c = search needs
+loop-again : tie.Need-loop-again Inv-loop μ-loop
+loop-again c = let l = c .before .before .before .loop in
+    (omega arith, simp length-set (l .inv .1), words-turn _ (l .out) (l .i) _ (omega arith) (l .inv .1) refl (l .inv .2))
 
-array-read-t49 : tie.Need-array-read-t49
-array-read-t49 c = search needs
-
-array-read-t52 : tie.Need-array-read-t52
-array-read-t52 c = search needs
-
-array-read-t56 : tie.Need-array-read-t56
-array-read-t56 c = search needs
-
-array-read-t59 : tie.Need-array-read-t59
-array-read-t59 c = search needs
-
-returns : tie.Need-returns
-unfolding either words8
-returns c = refl
+returns : tie.Need-returns Inv-loop μ-loop
+unfolding either
+returns c = let l = c .before .loop in words-end _ (l .out) (l .i) (omega arith) (l .inv .1) (l .inv .2)
 
 pub or-spec : {M : Type 1} → statement M
 or-spec =
     tie.close
     (tie.spec
-    array-read-t7
-    array-read-t10
-    array-read-t14
-    array-read-t17
-    array-read-t21
-    array-read-t24
-    array-read-t28
-    array-read-t31
-    array-read-t35
-    array-read-t38
-    array-read-t42
-    array-read-t45
-    array-read-t49
-    array-read-t52
-    array-read-t56
-    array-read-t59
+    Inv-loop
+    μ-loop
+    loop-holds
+    mul-out
+    element-copy-out-out
+    mul-out-2
+    element-copy-out-out-2
+    mul-out-3
+    array-write-out
+    add-i
+    loop-less
+    loop-again
     returns)

@@ -4,7 +4,7 @@ use mathlib.Core.Path.{sym}
 use Rattle.laws.specs.Digits.{one-shl}
 use Rattle.slots.specs.Slots.{removed}
 use Rattle.slots.specs.Sets.{remove-beyond}
-use Rattle.slots.proofs.Laws.{words-8}
+use Rattle.slots.proofs.SlotLaws.{words-8}
 use borrow.Author.Needs.{needs}
 use Rattle.slots.proofs.SlotSet.remove.Statement.{statement}
 use Rattle.slots.proofs.SlotSet.remove.Tie as tie

@@ -7,12 +7,13 @@ use Rattle.slots.specs.Slots.{members, listed, next-above}
 use Rattle.slots.proofs.Listing.{Listing, list-start, list-room, list-turn, list-end, length-listed}
 use Rattle.slots.proofs.SlotSet.write.Statement.{statement}
 use Rattle.slots.proofs.SlotSet.write.Tie as tie
+use Rattle.laws.specs.Sizes.{slotCount}
 
 abbrev Inv-loop : tie.InvT-loop
 Inv-loop self out₀ at₀ slot₀ out at slot = Listing (self .words) out out₀ at slot
 
 abbrev μ-loop : tie.MeasureT-loop
-μ-loop self out₀ at₀ slot₀ out at slot = 512 - slot
+μ-loop self out₀ at₀ slot₀ out at slot = slotCount - slot
 
 next-requires : tie.Need-next-requires Inv-loop μ-loop
 next-requires c κs = tt

@@ -1,0 +1,35 @@
+use lib.Seq.{length-take-le}
+use native.Mathlib.Omega.{arith}
+use mathlib.Core.Path.{sym}
+use borrow.Author.Needs.{needs}
+use Rattle.cases.proofs.say.say_done.Statement.{statement}
+use Rattle.cases.proofs.say.say_done.Tie as tie
+
+order-of-requires : tie.Need-order-of-requires
+order-of-requires c κs = search needs
+
+written-requires : tie.Need-written-requires
+written-requires c κs = search needs
+
+slice-aggregate-say-bytes : tie.Need-slice-aggregate-say-bytes
+slice-aggregate-say-bytes c = sym (length-take-le _ _ (omega arith))
+
+say-bytes-requires : tie.Need-say-bytes-requires
+say-bytes-requires c κs = search needs
+
+same-length : tie.Need-same-length
+same-length c = search needs
+
+returns : tie.Need-returns
+returns c = search needs
+
+pub say-done-spec : {M : Type 1} → statement M
+say-done-spec =
+    tie.close
+    (tie.spec
+    order-of-requires
+    written-requires
+    slice-aggregate-say-bytes
+    say-bytes-requires
+    same-length
+    returns)

@@ -1,0 +1,56 @@
+-- Every size of the library, said once: SCOPE.md, 'Store', 'Term bytes' and 'Numbers of refusal', and docs/TABLES.md.
+-- A table grows by its line here and by its constant in src/lib.rt.
+use Prim.Native.Nat.{ℕ, _+_, _-_, _*_}
+
+-- 'there are slots 0 to 511'
+abbrev pub slotCount : ℕ
+slotCount = 512
+
+-- KEYS: 'over 4,096 distinct keys'
+abbrev pub keyLimit : ℕ
+keyLimit = 4096
+
+-- '0x8000 + v with v from 0 to 31 is variable v'
+abbrev pub variableBase : ℕ
+variableBase = 32768
+
+abbrev pub variableEnd : ℕ
+variableEnd = variableBase + 32
+
+-- LONG: 'some value has over 2,048 items'
+abbrev pub valueLimit : ℕ
+valueLimit = 2048
+
+-- THE TABLES. bytes: two bytes of the signature's length, 256 arities, a byte of length for each slot, 64 bytes of
+-- term for each slot
+abbrev pub lengthsStart : ℕ
+lengthsStart = 2 + 256
+
+abbrev pub termsStart : ℕ
+termsStart = lengthsStart + slotCount
+
+abbrev pub bytesLength : ℕ
+bytesLength = termsStart + 64 * slotCount
+
+-- used: the words of the slots in use
+abbrev pub usedLength : ℕ
+usedLength = 8
+
+-- label: the label of each key
+abbrev pub labelLength : ℕ
+labelLength = keyLimit
+
+-- sets: a quarter of the keys in each of four tables, eight words a key
+abbrev pub setLength : ℕ
+setLength = 2 * keyLimit
+
+-- link: a link for each key, the heads of 4,093 chains, the chain of free keys
+abbrev pub linkLength : ℕ
+linkLength = 2 * keyLimit - 2
+
+abbrev pub freeHead : ℕ
+freeHead = linkLength - 1
+
+-- the place of the root, beyond the eight places below each key
+abbrev pub rootPlace : ℕ
+rootPlace = 8 * keyLimit + 8

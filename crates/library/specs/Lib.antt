@@ -1,0 +1,12 @@
+pub mod Apart
+pub mod Applies
+pub mod AppliesFirst
+pub mod Argument
+pub mod Cases
+pub mod Declared
+pub mod Formulas
+pub mod FormulasTable
+pub mod IsKey
+pub mod Readable
+pub mod Sound
+pub mod Store

@@ -1,0 +1,1 @@
+// The library of docs/SCOPE.md as functions on stores: definitions and theorems alone, in specs/.

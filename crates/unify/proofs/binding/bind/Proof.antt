@@ -1,0 +1,49 @@
+use borrow.Author.Needs.{needs}
+use native.Mathlib.Omega.{arith}
+use Rattle.unify.specs.Arms.{bound-circle, bound-free}
+use Rattle.unify.proofs.binding.bind.Statement.{statement}
+use Rattle.unify.proofs.binding.bind.Tie as tie
+
+mask-of-requires : tie.Need-mask-of-requires
+mask-of-requires c κs = search needs
+
+on-requires : tie.Need-on-requires
+on-requires c κs = search needs
+
+returns : tie.Need-returns
+returns c = let a = (c .before .before .before .before .before .before) .args in
+    let m = (c .before .before .mask-of) in
+    let o = (c .before .on) in
+    bound-circle (a .x) (a .u) _ (m .result) (o .result) (a .tab .now) (a .masks .now) (m .ensures) (o .ensures) (omega (arith, (c .if1) .taken))
+
+add-low : tie.Need-add-low
+add-low c = search needs
+
+low-requires : tie.Need-low-requires
+low-requires c κs = search needs
+
+element-write-tab : tie.Need-element-write-tab
+element-write-tab c = search needs
+
+spread-all-requires : tie.Need-spread-all-requires
+spread-all-requires c κs = search needs
+
+returns-2 : tie.Need-returns-2
+returns-2 c = let a = (c .before .before .before .before .before .before .before .before .before) .args in
+    let m = (c .before .before .before .before .before .mask-of) in
+    let o = (c .before .before .before .before .on) in
+    bound-free (a .x) (a .u) _ (m .result) (o .result) ((c .before .before .low) .result) (a .tab .now) (a .masks .now) _
+    (m .ensures) (o .ensures) (λ z. omega (arith, z, (c .before .before .before .if1) .left)) ((c .before .before .low) .ensures) ((c .spread-all) .ensures)
+
+pub bind-spec : {M : Type 1} → statement M
+bind-spec =
+    tie.close
+    (tie.spec
+    mask-of-requires
+    on-requires
+    returns
+    add-low
+    low-requires
+    element-write-tab
+    spread-all-requires
+    returns-2)
