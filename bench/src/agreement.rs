@@ -16,7 +16,7 @@ pub fn stored(workload: &Workload) -> (Tables, Index) {
     (tables, index)
 }
 
-/// Whether a stored term is a candidate for the question in relation 4, by document 01's table.
+/// Whether a stored term is a candidate for the question in relation 4, by docs/SCOPE.md's table.
 pub fn agrees(signature: &[u8], question: &[u8], term: &[u8]) -> bool {
     let asked: Vec<u16> = items(question).collect();
     let stored: Vec<u16> = items(term).collect();

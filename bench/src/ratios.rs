@@ -8,7 +8,7 @@ use crate::timing::{seconds, side_by_side, Ratio, RUNS};
 use crate::workloads::Workload;
 use std::hint::black_box;
 
-/// Document 01's names of the relations.
+/// docs/SCOPE.md's names of the relations.
 pub const RELATIONS: [&str; 5] = ["equal", "variant", "instance", "generalization", "unifiable"];
 
 type Questions<'a> = [&'a [u8]];

@@ -47,7 +47,8 @@ typedef char azunkefogo_size_has_64_bits[sizeof(size_t) == 8 ? 1 : -1];
 #define AZUNKEFOGO_STAR 0xFFFF     /* the end of a key: any variable */
 #define AZUNKEFOGO_FIELD 0x10      /* the tag of a record's field */
 
-/* Why a call is refused. Where several reasons apply, the lowest number is given. */
+/* Why a call is refused. Of the reasons that apply, the first in rank is given; for the
+   numbers 1 to 16 the rank is the order of the numbers. */
 enum azunkefogo_refusal {
     AZUNKEFOGO_TABLE = 1,    /* a lent table is too short */
     AZUNKEFOGO_SIG = 2,      /* a signature of 0 or over 256 bytes, or an arity above 8 */
@@ -104,7 +105,7 @@ uint32_t azunkefogo_argument(const uint8_t *signature, size_t signature_count,
                              size_t *start, size_t *length);
 
 /* Are a stored term and a question unifiable, their variables apart? Writes 1 or 0. Refuses with
-   2, and with 5 to 8 (the lowest number over both terms), and then leaves the answer. */
+   2, and with 5 to 8 (the first in rank over both terms), and then leaves the answer. */
 uint32_t azunkefogo_unifiable(const uint8_t *signature, size_t signature_count,
                               const uint8_t *stored, size_t stored_count,
                               const uint8_t *question, size_t question_count, size_t *answer);

@@ -164,7 +164,7 @@ fn check(plan: &Plan, log: &[u8], expected: &[u8]) -> Result<(), String> {
     if printed != expected {
         return Err(first_difference(&printed, expected));
     }
-    // Document 01 gives no exit numbers; a signal or a panic is a failure all the same.
+    // docs/SCOPE.md gives no exit numbers; a signal or a panic is a failure all the same.
     if status.signal().is_some() || status.code() == Some(101) {
         return Err(format!("the program broke off: {status}"));
     }

@@ -1,4 +1,4 @@
-//! Counts what the generated logs reach, to see that every edge of document 01 is met.
+//! Counts what the generated logs reach, to see that every edge of docs/SCOPE.md is met.
 
 use crate::generate;
 use crate::log;

@@ -32,7 +32,7 @@ static CHECKS: AtomicU64 = AtomicU64::new(0);
 
 /// What a round is owed by the calls: the full promise, refusal 1 for a short table, or,
 /// on memory that no opening made, only that they end and write nothing but lent memory
-/// (document 01, section 'Store').
+/// (docs/SCOPE.md, 'Store').
 #[derive(Clone, Copy, PartialEq)]
 enum Promise {
     Full,
@@ -505,10 +505,11 @@ impl Driver {
         let mut numbers = self.lend_numbers(1);
         let result = library::unifiable(&inputs, &mut numbers);
         let terms = [&stored, &question].map(|bytes| reference::check_term(&signature, bytes));
-        let lowest = terms.iter().filter_map(|term| term.as_ref().err().copied()).min();
-        let expected = match (reference::check_signature(&signature), lowest) {
-            (Err(refusal), _) | (Ok(()), Some(refusal)) => Err(refusal),
-            (Ok(()), None) => {
+        let signed = reference::check_signature(&signature).err();
+        let faults = terms.iter().filter_map(|term| term.as_ref().err().copied());
+        let expected = match reference::first_in_rank(signed.into_iter().chain(faults)) {
+            Some(refusal) => Err(refusal),
+            None => {
                 let [stored, question] = terms.map(|term| term.expect("neither is refused"));
                 Ok(Answer {
                     numbers: vec![reference::is_answer(4, &question, &stored) as usize],

@@ -1,4 +1,4 @@
-//! The cases that document 01 spells out, as tests: `rustc --test` builds them.
+//! The cases that docs/SCOPE.md spells out, as tests: `rustc --test` builds them.
 
 #![cfg(test)]
 
@@ -10,9 +10,11 @@ mod random;
 mod reference;
 
 use generate::hexadecimal;
-use reference::{argument, check_key, check_term, is_answer, is_candidate, Store};
+use reference::{
+    argument, check_key, check_term, first_in_rank, is_answer, is_candidate, Store, ORDER,
+};
 
-/// a=0, b=1, f=2, g=3 of document 01, section 'The log program'.
+/// a=0, b=1, f=2, g=3 of docs/SCOPE.md, 'The log program'.
 const SIGNATURE: [u8; 4] = [0, 0, 2, 1];
 
 /// The record, in hexadecimal, of one stored term and one question.
@@ -36,6 +38,18 @@ fn related(relation: usize, stored: &str, question: &str) -> (bool, bool) {
 
 fn record(fields: usize, text: &str) -> Result<(usize, String), u32> {
     Ok((fields, text.replace(' ', "")))
+}
+
+#[test]
+fn refusals_by_rank() {
+    let mut numbers = ORDER.to_vec();
+    numbers.sort();
+    assert_eq!(numbers, Vec::from_iter(1..=24));
+    let given = ORDER.into_iter().filter(|&number| number <= 16);
+    assert_eq!(Vec::from_iter(given), Vec::from_iter(1..=16));
+    assert_eq!(first_in_rank([15, 8, 4, 21]), Some(21));
+    assert_eq!(first_in_rank([13, 24, 16]), Some(24));
+    assert_eq!(first_in_rank([]), None);
 }
 
 #[test]
@@ -84,7 +98,7 @@ fn the_cases_of_two_terms() {
 
 #[test]
 fn the_cases_of_one_term() {
-    // P9 to P11, and readings 1 and 2 of document 01.
+    // P9 to P11, and the edges of the term check (docs/SCOPE.md, 'Numbers of refusal').
     let check = |text: &str| check_term(&SIGNATURE, &hexadecimal(text)).err();
     assert_eq!(check("0002 8000"), Some(8));
     assert_eq!(check("0000 0000"), Some(8));

@@ -1,5 +1,5 @@
 //! Generates operation logs, each fully determined by its seed. The reference's own store
-//! runs along, so that a log can be steered to the edges of document 01.
+//! runs along, so that a log can be steered to the edges of docs/SCOPE.md.
 
 #![allow(dead_code)]
 
@@ -227,7 +227,7 @@ fn hard(mut random: Random, pair: fn(&mut Inventor) -> (Term, Term)) -> Vec<u8> 
     writer.log
 }
 
-/// Values of 2,048 and 2,049 items (document 01, 'Size limit').
+/// Values of 2,048 and 2,049 items (docs/SCOPE.md, 'Size limit').
 fn value_edge(inventor: &mut Inventor) -> (Term, Term) {
     let items = *inventor.random.pick(&[2048, 2049]);
     pairs::sized_value(inventor, items)
@@ -372,7 +372,7 @@ fn to_the_edge(writer: &mut Writer) {
     writer.insert(&near.bytes());
 }
 
-/// A small log with one damage (document 01, section 'The log program').
+/// A small log with one damage (docs/SCOPE.md, 'The log program').
 fn damaged(mut random: Random) -> Vec<u8> {
     match random.below(14) {
         0 => return Vec::new(),
@@ -453,7 +453,7 @@ fn without_signature(writer: Writer) -> Vec<u8> {
     writer.log[3 + writer.inventor.signature.len()..].to_vec()
 }
 
-/// Payloads about the fixed parts of tags 2 to 5 (reading 3 of document 01).
+/// Payloads about the fixed parts of tags 2 to 5 (docs/SCOPE.md).
 fn bad_payload(writer: &mut Writer) {
     let (tag, length) = *writer.random().pick(&[
         (2, 0),
@@ -504,7 +504,7 @@ fn longest(mut random: Random) -> Vec<u8> {
     writer.log
 }
 
-/// P1 to P12 and the log of document 01, every term against every other.
+/// P1 to P12 and the log of docs/SCOPE.md, every term against every other.
 fn paper_cases(random: Random) -> Vec<u8> {
     let mut writer = Writer::new(random, vec![0, 0, 2, 1]);
     let mut terms: Vec<&str> = vec![

@@ -352,7 +352,7 @@ impl Inventor {
     }
 
     /// Key bytes: of the term, random, or with one reason of refusal 9
-    /// (document 01, section 'Numbers of refusal').
+    /// (docs/SCOPE.md, 'Numbers of refusal').
     pub fn damaged_key(&mut self, mut key: Vec<u8>) -> Vec<u8> {
         let declared = self.signature.len() as u16;
         match self.random.below(6) {

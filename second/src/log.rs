@@ -1,5 +1,5 @@
 //! Reads an operation log and says what the log program must print
-//! (document 01, section 'The log program').
+//! (docs/SCOPE.md, 'The log program').
 
 #![allow(dead_code)]
 
@@ -94,7 +94,7 @@ fn slot_of(payload: &[u8]) -> usize {
     usize::from(u16::from_be_bytes([payload[0], payload[1]]))
 }
 
-/// Every word of an answer brings its own blank before it, so no line ends in one (reading 6).
+/// Every word of an answer brings its own blank before it, so no line ends in one.
 fn line(word: &str, answer: Result<String, Refusal>) -> String {
     match answer {
         Ok(words) => format!("{word} ok{words}\n"),

@@ -181,7 +181,7 @@ fn two_towers(inventor: &mut Inventor) -> Pair {
     wrap_fitting(inventor, pairs)
 }
 
-/// Pairs that give stored variables known value sizes, as in document 01's size limit:
+/// Pairs that give stored variables known value sizes, as in docs/SCOPE.md's size limit:
 /// each level multiplies by its arity. Each value is (items, stored variable).
 struct Ladder {
     pairs: Vec<Pair>,

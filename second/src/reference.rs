@@ -1,4 +1,4 @@
-//! The reference library: document 01 written down a second time, as plainly as it can be.
+//! The reference library: docs/SCOPE.md written down a second time, as plainly as it can be.
 //! Terms are trees, keys are explicit sets, every question scans every slot.
 
 // Each program uses its own part of this module.
@@ -24,6 +24,19 @@ pub const NONE: Refusal = 13;
 pub const LONG: Refusal = 14;
 pub const ROOM: Refusal = 15;
 
+/// All numbers, the first in rank first (document 01, section 'Numbers of refusal').
+pub const ORDER: [Refusal; 24] = [
+    1, 2, 3, 21, 4, 5, 6, 7, 8, 9, 10, 17, 20, 18, 11, 12, 19, 22, 23, 24, 13, 14, 15, 16,
+];
+
+/// Of the refusals that apply the first in rank.
+pub fn first_in_rank(applying: impl IntoIterator<Item = Refusal>) -> Option<Refusal> {
+    let rank = |number: &Refusal| ORDER.iter().position(|placed| placed == number);
+    applying
+        .into_iter()
+        .min_by_key(|number| rank(number).expect("a number of refusal"))
+}
+
 pub const SLOTS: usize = 512;
 pub const MOST_KEYS: usize = 4096;
 pub const MOST_VALUE_ITEMS: usize = 2048;
@@ -32,7 +45,7 @@ pub const FIRST_VARIABLE: u16 = 0x8000;
 pub const VARIABLES: u16 = 32;
 pub const STAR: u16 = 0xFFFF;
 
-/// A term of one side; variables are numbered 0 to 31 (document 01, section 'Term bytes').
+/// A term of one side; variables are numbered 0 to 31 (docs/SCOPE.md, 'Term bytes').
 #[derive(Clone, Debug, PartialEq, Eq)]
 pub enum Term {
     Variable(u16),
@@ -70,7 +83,7 @@ pub fn push_item(bytes: &mut Vec<u8>, item: u16) {
     bytes.extend_from_slice(&item.to_be_bytes());
 }
 
-/// Refusal 2 (document 01, section 'Numbers of refusal').
+/// Refusal 2 (docs/SCOPE.md, 'Numbers of refusal').
 pub fn check_signature(signature: &[u8]) -> Result<(), Refusal> {
     let length_fits = (1..=256).contains(&signature.len());
     if length_fits && signature.iter().all(|&arity| arity <= 8) {
@@ -80,7 +93,7 @@ pub fn check_signature(signature: &[u8]) -> Result<(), Refusal> {
     }
 }
 
-/// Refusals 5 to 8; every item is looked at before the shape (reading 1 of document 01).
+/// Refusals 5 to 8; every item is looked at before the shape (docs/SCOPE.md).
 pub fn check_term(signature: &[u8], bytes: &[u8]) -> Result<Term, Refusal> {
     if bytes.len() > MOST_TERM_BYTES {
         return Err(SIZE);
@@ -139,7 +152,7 @@ pub fn argument(signature: &[u8], bytes: &[u8], number: usize) -> Result<Range<u
 }
 
 /// A key: the steps of its path and what stands at its end, none being the star
-/// (document 01, section 'Paths and keys').
+/// (docs/SCOPE.md, 'Paths and keys').
 #[derive(Clone, Debug, PartialEq, Eq, PartialOrd, Ord)]
 pub struct Key {
     pub path: Vec<(u16, u8)>,
@@ -182,7 +195,7 @@ fn collect_keys(term: &Term, path: &mut Vec<(u16, u8)>, keys: &mut BTreeSet<Key>
     }
 }
 
-/// Refusal 9; a key without steps is a key (reading 11 of document 01).
+/// Refusal 9; a key without steps is a key (docs/SCOPE.md).
 pub fn check_key(signature: &[u8], bytes: &[u8]) -> Result<Key, Refusal> {
     if bytes.len() < 2 || (bytes.len() - 2) % 3 != 0 || (bytes.len() - 2) / 3 > 31 {
         return Err(KEY);
@@ -209,7 +222,7 @@ pub fn check_key(signature: &[u8], bytes: &[u8]) -> Result<Key, Refusal> {
     }
 }
 
-/// The candidate table of document 01, section 'Paths and keys', walking both trees.
+/// The candidate table of docs/SCOPE.md, 'Paths and keys', walking both trees.
 pub fn is_candidate(relation: usize, question: &Term, stored: &Term) -> bool {
     match (question, stored) {
         (Term::Variable(_), Term::Variable(_)) => true,
@@ -222,7 +235,7 @@ pub fn is_candidate(relation: usize, question: &Term, stored: &Term) -> bool {
     }
 }
 
-/// The relations of document 01, section 'The relations themselves'.
+/// The relations of docs/SCOPE.md, 'The relations themselves'.
 pub fn is_answer(relation: usize, question: &Term, stored: &Term) -> bool {
     match relation {
         0 => question.bytes() == stored.bytes(),
@@ -392,7 +405,7 @@ impl Unifier {
     }
 
     /// The variables that the record lists, ascending, each with its class
-    /// (document 01, section 'The solver's record').
+    /// (docs/SCOPE.md, 'The solver's record').
     pub fn listed(&self) -> Vec<(u16, usize)> {
         let mut listed = Vec::new();
         for (&written, &node) in &self.variable_node {
@@ -480,7 +493,7 @@ impl Store {
         keys.iter().filter(|k| !self.keys.contains_key(k)).count()
     }
 
-    /// Refusals 5 to 8, 11, 12 (reading 8 of document 01: FULL comes first).
+    /// Refusals 5 to 8, 11, 12 (docs/SCOPE.md: FULL comes first).
     pub fn insert(&mut self, bytes: &[u8]) -> Result<usize, Refusal> {
         let term = check_term(&self.signature, bytes)?;
         let slot = self.slots.iter().position(Option::is_none).ok_or(FULL)?;

@@ -1,5 +1,5 @@
 //! `replay`, the reference's log program: a whole log on standard input, its lines on
-//! standard output (document 01, section 'The log program').
+//! standard output (docs/SCOPE.md, 'The log program').
 
 mod log;
 mod reference;

@@ -71,7 +71,7 @@ pub fn check_term(signature: &[u8], term: &[u8]) -> Result<(), Refusal> {
 
 /// Whether a stored term and a question are unifiable, their variables apart; no index is needed.
 ///
-/// Refused with [`Refusal::Signature`], or as [`check_term`] refuses, with the lowest number over both terms.
+/// Refused with [`Refusal::Signature`], or as [`check_term`] refuses, with the first in rank over both terms.
 ///
 /// ```
 /// use azunkefogo::{unifiable, Refusal};

@@ -3,7 +3,9 @@
 use std::error::Error;
 use std::fmt;
 
-/// Why a call was refused. Where several reasons apply, the lowest number is given.
+/// Why a call was refused. Of the reasons that apply, the first in rank is given; for the numbers
+/// 1 to 16 the rank is the order of the numbers. The type itself is not ordered, since the ranks
+/// of numbers to come are another order than the numbers.
 ///
 /// A refused call changes nothing: not the index, and not a caller's buffer.
 ///
@@ -15,7 +17,7 @@ use std::fmt;
 /// assert_eq!(refused.number(), 6);
 /// assert_eq!(refused.name(), "ODD");
 /// ```
-#[derive(Clone, Copy, Debug, PartialEq, Eq, PartialOrd, Ord, Hash)]
+#[derive(Clone, Copy, Debug, PartialEq, Eq, Hash)]
 #[non_exhaustive]
 pub enum Refusal {
     /// 1: a lent table is too short. An [`Index`](crate::Index) never gets it.
