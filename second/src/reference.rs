@@ -24,7 +24,7 @@ pub const NONE: Refusal = 13;
 pub const LONG: Refusal = 14;
 pub const ROOM: Refusal = 15;
 
-/// All numbers, the first in rank first (document 01, section 'Numbers of refusal').
+/// All numbers, the first in rank first (docs/SCOPE.md, 'Numbers of refusal').
 pub const ORDER: [Refusal; 24] = [
     1, 2, 3, 21, 4, 5, 6, 7, 8, 9, 10, 17, 20, 18, 11, 12, 19, 22, 23, 24, 13, 14, 15, 16,
 ];

@@ -24,7 +24,7 @@ use Rattle.theory.specs.Matcher.{items?}
 use Rattle.theory.specs.Fresh.{stays, absent, changed-occurs, kept}
 use Rattle.definitions.specs.Records.{Unifier, unless, listedFrom, listed, bytes, fieldBytes, written, recordOf, countOf, Short}
 use Rattle.laws.specs.Sizes.{variableBase, variableEnd}
-use Rattle.terms.specs.Terms.{arity}
+use Rattle.terms.specs.Terms.{arity, numbers}
 
 -- the items of a field: a variable, and its value
 abbrev pub fieldRead : List Item → List Bind → List Bind
@@ -52,7 +52,7 @@ code-var : (x : ℕ) → code (va x) ≡ va x
 code-var x = let b : variableBase ≤ variableBase + x = omega arith in let e : variableBase + x - variableBase ≡ x = omega arith in rw (le-ltb (variableBase + x) variableBase b, e)
 
 items-bytes : (l : List Item) → items (bytes l) ≡ map code l
-unfolding bytes codes
+unfolding bytes codes numbers
 items-bytes [] = refl
 items-bytes (i ∷ l) = let e : number i / 256 * 256 + number i % 256 ≡ number i = omega arith in rw (e, moved-none (number i), items-bytes l)
 

@@ -16,6 +16,8 @@ pub const VARIABLE_END: usize = 32800;
 
 pub const VARIABLE16: u16 = 32768;
 
+pub const VARIABLE_END16: u16 = 32800;
+
 pub const VALUE_ITEMS: usize = 2048;
 
 // The lengths of the lent tables, and where what they hold starts (docs/TABLES.md).

@@ -253,5 +253,5 @@ cases-hold = table-holds signature refl cases refl
 
 -- and so does the size limit
 pub limit-holds : Limit
-unfolding checkAll shortFrom sigRefusal aritiesGood refusal span declared itemsGood bindings? solution solve by-free by-size step face face-var face-bound var-symbol var-var in? once-cases ℕ-discrete one at-bind at-swap at-follow decLe terms? codes moved
+unfolding checkAll shortFrom sigRefusal aritiesGood refusal span declared itemsGood bindings? solution solve by-free by-size step face face-var face-bound var-symbol var-var in? once-cases ℕ-discrete one at-bind at-swap at-follow decLe terms? codes numbers moved
 limit-holds = (all-hold (wide 7) refl (grown []) asking (valued 34 valueLimit ∷ fits ∷ []) refl, all-hold (wide 8) refl (grown (0 ∷ 0 ∷ [])) asking (valued 34 2049 ∷ []) refl)

@@ -14,7 +14,7 @@ use lib.Dec.{ltb, leb}
 use lib.ListN.{length, getD, List·getD-eq-default}
 use borrow.Author.Tests.{lt-ltb, le-ltb, ltb-true, leb-true}
 use Rattle.laws.specs.Choice.{pick}
-use Rattle.terms.specs.Terms.{declared, itemsGood, sigRefusal, refusal}
+use Rattle.terms.specs.Terms.{declared, itemsGood, sigRefusal, refusal, numbers}
 use Rattle.terms.proofs.TermLaws.{good}
 use Rattle.theory.specs.Flat.{Item, sy, va, Terms}
 use Rattle.theory.specs.Subst.{vars, app, app-agree, Occurs, Sub}
@@ -150,7 +150,7 @@ module _ (sig : List ℕ) where
       go (no n) = absurd (n h)
 
   items-declared : (t : List ℕ) → itemsGood (length sig) t ≡ true → Declared (items t)
-  unfolding itemsGood codes declared
+  unfolding itemsGood codes numbers declared
   items-declared [] e = tt
   items-declared (h ∷ []) e = tt
   items-declared (h ∷ l ∷ r) e =

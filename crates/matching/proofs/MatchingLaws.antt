@@ -7,7 +7,8 @@ use native.Mathlib.Omega.{arith}
 use lib.ListN.{length, getD, take, drop, replicate, length-drop}
 use lib.Seq.{take-suc, getD-take, getD-drop}
 use Rattle.theory.specs.Flat.{sy}
-use Rattle.theory.specs.Items.{items, item16, item16-one, itemAt, items-at, length-items}
+use Rattle.theory.specs.Items.{items, item16, item16-one, items-at, length-items}
+use Rattle.terms.specs.Terms.{itemAt}
 
 pub take-more : {A : Type 0} (d : A) (a b : List A) (i : ℕ) → i < length a → i < length b → getD a i d ≡ getD b i d → take i a ≡ take i b → take (i + 1) a ≡ take (i + 1) b
 take-more d a b i la lb e h = rw (add-one i, take-suc a i d la, take-suc b i d lb, e, h)

@@ -14,12 +14,12 @@ use Rattle.theory.specs.Flat.{Item, sy, va, Terms}
 use Rattle.theory.specs.Subst.{vars, app, app-agree, term-length}
 use Rattle.theory.specs.Unify.{Bind, _:=_, Unbound, Has}
 use Rattle.theory.specs.Cut.{first, rest, first-rest, first-terms, rest-terms, first-append}
-use Rattle.theory.specs.Items.{item16, item16-one, items, itemAt, length-items, items-at, items-drop, Fine}
+use Rattle.theory.specs.Items.{item16, item16-one, items, length-items, items-at, items-drop, Fine}
 use Rattle.theory.specs.Nodes.{val, val-var, Next}
 use Rattle.theory.specs.Relations.{Instance, Variant}
 use Rattle.theory.specs.Match.{Inv, start, step-symbol, step-new, step-old, none-symbol, none-differs, found, once, once-sub, agrees-once, agrees-has}
 use Rattle.laws.specs.Sizes.{variableBase}
-use Rattle.terms.specs.Terms.{arity}
+use Rattle.terms.specs.Terms.{arity, itemAt}
 
 sym-item : (c : ℕ) → c < variableBase → item16 c ≡ sy c
 sym-item c b = rw (lt-ltb c variableBase b)

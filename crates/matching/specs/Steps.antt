@@ -9,13 +9,13 @@ use native.Mathlib.Decide.{ℕ-discrete}
 use native.Mathlib.Omega.{arith}
 use lib.ListN.{length, getD, drop, take, set}
 use lib.Seq.{getD-set-same, getD-set-other}
-use Rattle.theory.specs.Items.{items, itemAt}
+use Rattle.theory.specs.Items.{items}
 use Rattle.theory.specs.Nodes.{Next}
 use Rattle.theory.specs.Relations.{Decided, Instance, Variant}
 use Rattle.theory.specs.Subst.{vars}
 use Rattle.matching.specs.Going.{Going, going-symbol, going-clash, going-new, going-old, going-differs}
 use Rattle.laws.specs.Sizes.{variableBase}
-use Rattle.terms.specs.Terms.{arity}
+use Rattle.terms.specs.Terms.{arity, itemAt}
 
 -- the term at item j of t ends before item e
 pub record EndsAt (sig t : List ℕ) (j e : ℕ) : Type 0 where

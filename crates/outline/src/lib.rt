@@ -1,11 +1,12 @@
 // A term's items as the key table needs them: each item's number, what stands at its end of path, and where it hangs.
 // An item's up is 0 at the root, else 1 + 8 * (its parent's item) + (its argument's number from 0).
+use items::load;
 use laws::VARIABLE16;
 use laws::low;
 use laws::low16;
-use laws::number_at;
 use laws::wide16;
 use terms::arity;
+use variables::Bank;
 ghost use mathlib.Core.Path.{_≡_};
 ghost use mathlib.Core.List.{[], _∷_, _++_, map};
 ghost use Prim.Native.Nat.{ℕ, _+_, _-_, _*_, _/_, _≤_, _<_};
@@ -15,19 +16,13 @@ ghost use Rattle.keys.specs.Keys.{endOf};
 ghost use Rattle.paths.specs.Ups.{kids, upsF};
 ghost use Rattle.terms.specs.Terms.{numbers};
 
-// The numbers of the items of t, at the start of `out`; how many.
+// The numbers of the items of t as they stand, at the start of `out`; how many.
 pub fn decode(t: &[u8], out: &mut [u16]) -> usize
     requires { ⌜ length (now t) / 2 ≤ length (now out) ⌝ }
     ensures { λ r. ⌜ (r ≡ length (now (t .entry)) / 2)
         × (now (out .exit) ≡ sets (now (out .entry)) 0 (numbers (now (t .entry)))) ⌝ }
 {
-    let n = t.len() / 2;
-    let mut i: usize = 0;
-    while i < n {
-        out[i] = low16(number_at(t, 2 * i));
-        i += 1;
-    }
-    n
+    load(out, 0, t, Bank::Stored)
 }
 
 // What stands at the end of an item's path: the symbol, or 256, the star.

@@ -7,7 +7,7 @@ use lib.Seq.{take-all, drop-nil, drop-drop}
 use native.Mathlib.Nat.{add-assoc, zero-add, suc-add, add-suc}
 use native.Mathlib.Numerals.{one-add, add-one}
 use native.Mathlib.Omega.{arith}
-use Rattle.terms.specs.Terms.{numbers, span, declared, itemsGood, aritiesGood, sigRefusal, Signed, refusal, firstItem, argRefusal}
+use Rattle.terms.specs.Terms.{numbers, span, declared, itemsGood, aritiesGood, sigRefusal, Signed, refusal, firstItem, argRefusal, itemAt}
 use Rattle.laws.specs.Choice.{pick}
 use Rattle.laws.proofs.Lists.{tail-part}
 use mathlib.Core.Bool.{Bool, true, false}
@@ -184,7 +184,7 @@ length-numbers [] = refl
 length-numbers (h ∷ []) = refl
 length-numbers (h ∷ l ∷ r) = omega (arith, length-numbers r)
 
-pub getD-numbers : (t : List ℕ) (i : ℕ) → i < length t / 2 → getD (numbers t) i 0 ≡ getD t (2 * i) 0 * 256 + getD t (2 * i + 1) 0
+pub getD-numbers : (t : List ℕ) (i : ℕ) → i < length t / 2 → getD (numbers t) i 0 ≡ itemAt t i
 unfolding numbers
 getD-numbers [] i b = absurd (omega arith)
 getD-numbers (h ∷ []) i b = absurd (omega arith)

@@ -13,11 +13,15 @@ use Rattle.laws.specs.Sizes.{variableBase, variableEnd}
 abbrev pub arity : List ℕ → ℕ → ℕ
 arity sig s = getD sig s 0
 
--- the items of the bytes, two bytes an item, high byte first
+-- 'an item is two bytes, high byte first': THE ONE READING of a term's bytes
 unfoldable pub numbers : List ℕ → List ℕ
 numbers [] = []
 numbers (h ∷ []) = []
 numbers (h ∷ l ∷ r) = (h * 256 + l) ∷ numbers r
+
+-- the number of item i, read at its place
+abbrev pub itemAt : List ℕ → ℕ → ℕ
+itemAt t i = getD t (2 * i) 0 * 256 + getD t (2 * i + 1) 0
 
 -- the bytes that the first k terms of t take up, two for each item that is missing
 unfoldable pub span : List ℕ → List ℕ → ℕ → ℕ

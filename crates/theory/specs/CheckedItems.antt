@@ -10,7 +10,7 @@ use lib.Dec.{ltb, leb}
 use lib.ListN.{length, getD, List·getD-eq-default}
 use borrow.Author.Tests.{lt-ltb, le-ltb, ltb-true}
 use Rattle.laws.specs.Choice.{pick}
-use Rattle.terms.specs.Terms.{span, declared, itemsGood, sigRefusal, Signed, refusal}
+use Rattle.terms.specs.Terms.{span, declared, itemsGood, sigRefusal, Signed, refusal, itemAt, numbers}
 use Rattle.terms.proofs.TermLaws.{Good, good, signed}
 use Rattle.theory.specs.Flat.{Item, Terms}
 use Rattle.theory.specs.Items.{item16, moved-none, codes, items, Fine}
@@ -25,7 +25,7 @@ head sig b c k r t = go (decLe variableBase c)
     go (no v) = let h : c < variableBase = omega arith in rw (lt-ltb c variableBase h) t
 
 span-terms : (sig : List ℕ) → length sig ≤ 256 → (t : List ℕ) (k : ℕ) → length t % 2 ≡ 0 → span sig t k ≡ length t → Terms (arity sig) k (items t)
-unfolding span codes
+unfolding span codes numbers
 span-terms sig b [] zero e h = tt
 span-terms sig b [] (suc k) e h = absurd (omega arith)
 span-terms sig b (x ∷ []) k e h = absurd (omega arith)
@@ -54,7 +54,7 @@ declared-below n x b h = go (ltb x n) refl h
     go true e g = let l = ltb-true x n e in omega arith
     go false e g = ltb-true x variableEnd (taken (leb variableBase x) (ltb x variableEnd) g .1)
 
-items-named : (n : ℕ) (t : List ℕ) → n ≤ 256 → itemsGood n t ≡ true → (i : ℕ) → i < length t / 2 → getD t (2 * i) 0 * 256 + getD t (2 * i + 1) 0 < variableEnd
+items-named : (n : ℕ) (t : List ℕ) → n ≤ 256 → itemsGood n t ≡ true → (i : ℕ) → i < length t / 2 → itemAt t i < variableEnd
 unfolding itemsGood
 items-named n [] b h i l = absurd (omega arith)
 items-named n (x ∷ []) b h i l = absurd (omega arith)

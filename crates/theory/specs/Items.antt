@@ -11,7 +11,7 @@ use lib.Seq.{drop-cons}
 use native.Mathlib.Numerals.{add-one}
 use borrow.Author.Tests.{lt-ltb, le-ltb}
 use Rattle.laws.specs.Choice.{pick}
-use Rattle.terms.specs.Terms.{numbers, arity}
+use Rattle.terms.specs.Terms.{numbers, arity, itemAt}
 use Rattle.theory.specs.Flat.{Item, sy, va, Terms}
 use Rattle.laws.specs.Sizes.{variableBase, variableEnd}
 
@@ -69,20 +69,18 @@ moved-le bank c b = go (decLe variableBase c)
     go (yes v) = omega (arith, moved-var bank c v)
     go (no v) = omega (arith, moved-sym bank c (omega arith))
 
--- 'An item is two bytes, high byte first'
+-- the items of the bytes as numbers, the variables' moved into their bank
 unfoldable pub codes : ℕ → List ℕ → List ℕ
-codes bank [] = []
-codes bank (h ∷ []) = []
-codes bank (h ∷ l ∷ r) = moved bank (h * 256 + l) ∷ codes bank r
+codes bank t = map (moved bank) (numbers t)
 
 pub length-codes : (bank : ℕ) (t : List ℕ) → length (codes bank t) ≡ length t / 2
-unfolding codes
+unfolding codes numbers
 length-codes bank [] = refl
 length-codes bank (h ∷ []) = refl
 length-codes bank (h ∷ l ∷ r) = omega (arith, length-codes bank r)
 
-pub getD-codes : (bank : ℕ) (t : List ℕ) (i : ℕ) → i < length t / 2 → getD (codes bank t) i 0 ≡ moved bank (getD t (2 * i) 0 * 256 + getD t (2 * i + 1) 0)
-unfolding codes
+pub getD-codes : (bank : ℕ) (t : List ℕ) (i : ℕ) → i < length t / 2 → getD (codes bank t) i 0 ≡ moved bank (itemAt t i)
+unfolding codes numbers
 getD-codes bank [] i b = absurd (omega arith)
 getD-codes bank (h ∷ []) i b = absurd (omega arith)
 getD-codes bank (h ∷ l ∷ r) zero b = refl
@@ -101,10 +99,6 @@ unfolding codes numbers
 codes-numbers [] = refl
 codes-numbers (h ∷ []) = refl
 codes-numbers (h ∷ l ∷ r) = rw (moved-none (h * 256 + l), codes-numbers r)
-
--- the number of item i of the bytes
-abbrev pub itemAt : List ℕ → ℕ → ℕ
-itemAt t i = getD t (2 * i) 0 * 256 + getD t (2 * i + 1) 0
 
 pub length-items : (t : List ℕ) → length (items t) ≡ length t / 2
 length-items t = length-map (codes 0 t) item16 ∙ length-codes 0 t
@@ -129,7 +123,7 @@ shift n (sy s ∷ l) = sy s ∷ shift n l
 shift n (va x ∷ l) = va (n + x) ∷ shift n l
 
 pub shift-codes : (n : ℕ) (t : List ℕ) → items16 (codes n t) ≡ shift n (items t)
-unfolding codes
+unfolding codes numbers
 shift-codes n [] = refl
 shift-codes n (h ∷ []) = refl
 shift-codes n (h ∷ l ∷ r) = go (h * 256 + l) (decLe variableBase (h * 256 + l)) (shift-codes n r)
@@ -158,4 +152,4 @@ pub record Fine (sig t : List ℕ) : Type 0 where
   pub even : length t % 2 ≡ 0
   pub short : length t ≤ 64
   pub term : Terms (arity sig) 1 (items t)
-  pub named : (i : ℕ) → i < length t / 2 → getD t (2 * i) 0 * 256 + getD t (2 * i + 1) 0 < variableEnd
+  pub named : (i : ℕ) → i < length t / 2 → itemAt t i < variableEnd

@@ -2,7 +2,7 @@
 use mathlib.Core.Path.{_≡_, refl, sym, ap, _∙_}
 use mathlib.Core.Logic.{_≢_}
 use mathlib.Core.List.{List, [], _∷_, _++_, append-nil}
-use Prim.Native.Nat.{ℕ, _+_, _-_, _*_, _/_, _≤_, _<_}
+use Prim.Native.Nat.{ℕ, zero, suc, _+_, _-_, _*_, _/_, _≤_, _<_}
 use native.Mathlib.Nat.{zero-add}
 use native.Mathlib.Decide.{decLt}
 use native.Mathlib.Omega.{arith}
@@ -16,9 +16,11 @@ use Rattle.theory.specs.Subst.{app, Sub, term-length}
 use Rattle.theory.specs.Unify.{Bind, full, Good}
 use Rattle.theory.specs.Canon.{Least, Mgu}
 use Rattle.theory.specs.Cut.{first, first-append}
-use Rattle.theory.specs.Items.{item16, items16, codes, length-codes, getD-codes, moved-le, items, shift, shift-codes, shift-terms, Fine}
+use Rattle.theory.specs.Items.{item16, items16, codes, length-codes, getD-codes, moved, moved-sym, moved-var, moved-le, items, shift, shift-codes, shift-terms, Fine}
 use Rattle.unify.specs.Run.{Given, Shape, Tab, Ended, term}
-use Rattle.terms.specs.Terms.{arity}
+use Rattle.terms.specs.Terms.{arity, itemAt, numbers}
+use Rattle.laws.specs.Sizes.{variableBase, variableEnd}
+use Rattle.items.specs.Decoding.{writtenAs, decoded, as-symbol, as-variable}
 
 pub record Asked (sig s q : List ℕ) : Type 0 where
   pub stored : Fine sig s
@@ -52,13 +54,13 @@ module _ (sig s q : List ℕ) (A : Asked sig s q) where
       name : (p : ℕ) → p < length (both s q) → Dec (p < length (codes 0 s)) → getD (both s q) p 0 < 32832
       name p b (yes l) =
           let i : p < length s / 2 = omega (arith, length-codes 0 s) in
-          rw (List·getD-append (codes 0 s) (codes 32 q) 0 p l, getD-codes 0 s p i) (omega (arith, moved-le 0 (getD s (2 * p) 0 * 256 + getD s (2 * p + 1) 0) (A .stored .named p i)))
+          rw (List·getD-append (codes 0 s) (codes 32 q) 0 p l, getD-codes 0 s p i) (omega (arith, moved-le 0 (itemAt s p) (A .stored .named p i)))
       name p b (no l) =
           let i : p - length (codes 0 s) < length q / 2 = omega (arith, length-codes 0 s, length-both) in
           let e : p ≡ length (codes 0 s) + (p - length (codes 0 s)) = omega arith in
           let j = p - length (codes 0 s) in
           rw (e, getD-append-add (codes 0 s) (codes 32 q) (p - length (codes 0 s)) 0, getD-codes 32 q (p - length (codes 0 s)) i)
-          (omega (arith, moved-le 32 (getD q (2 * j) 0 * 256 + getD q (2 * j + 1) 0) (A .question .named j i)))
+          (omega (arith, moved-le 32 (itemAt q j) (A .question .named j i)))
 
   pub term-stored : term sig (both s q) 0 ≡ items s
   term-stored = ap (first (arity sig) 1) (map-append (codes 0 s) (codes 32 q)) ∙ first-append (arity sig) 1 (items s) (items16 (codes 32 q)) (A .stored .term)
@@ -97,6 +99,26 @@ answer sig s q A code tab e = (
   (λ n σ w k. e .1 n σ w (rw (term-stored sig s q A, term-question sig s q A) k)),
 )
 
+-- of items that are items, the decoding is theirs
+code-same : (bank c : ℕ) → c < variableEnd → writtenAs bank c ≡ moved bank c
+code-same bank c b = go (decLt c variableBase)
+  where
+    go : Dec (c < variableBase) → writtenAs bank c ≡ moved bank c
+    go (yes l) = as-symbol bank c l ∙ sym (moved-sym bank c l)
+    go (no l) = let v : variableBase ≤ c = omega arith in as-variable bank c v b ∙ sym (moved-var bank c v)
+
+pub decoded-codes : (bank : ℕ) (t : List ℕ) → ((i : ℕ) → i < length t / 2 → itemAt t i < variableEnd) → decoded bank t ≡ codes bank t
+unfolding decoded codes numbers
+decoded-codes bank [] h = refl
+decoded-codes bank (x ∷ []) h = refl
+decoded-codes bank (x ∷ y ∷ r) h = rw (code-same bank (x * 256 + y) (h 0 (omega arith)), decoded-codes bank r (λ i b. next i b))
+  where
+    next : (i : ℕ) → i < length r / 2 → itemAt r i < variableEnd
+    next i b =
+        let e : 2 * suc i ≡ suc (suc (2 * i)) = omega arith in
+        let f : suc (suc (2 * i)) + 1 ≡ suc (suc (2 * i + 1)) = omega arith in
+        rw (e, f) at (h (suc i) (omega arith))
+
 -- the pool that two loads leave, cut to its length
 pub loaded : (s q pool : List ℕ) → length s / 2 + length q / 2 ≤ length pool
     → take (length s / 2 + length q / 2) (sets (sets pool 0 (codes 0 s)) (length s / 2) (codes 32 q)) ≡ both s q
@@ -119,6 +141,19 @@ pub record Loaded (sig s q pool : List ℕ) (r : ℕ) : Type 0 where
   pub root : r ≡ length s / 2
   pub many : length pool ≡ 64
   pub is : take (length s / 2 + length q / 2) pool ≡ both s q
+
+-- from the two loads
+pub loads : (sig s q p pool : List ℕ) (r : ℕ) → Asked sig s q → length s / 2 + length q / 2 ≤ length p → r ≡ length s / 2 → length p ≡ 64
+    → pool ≡ sets (sets p 0 (decoded 0 s)) (length s / 2) (decoded 32 q) → Loaded sig s q pool r
+loads sig s q p pool r A b e n is =
+    let is′ : pool ≡ sets (sets p 0 (codes 0 s)) (length s / 2) (codes 32 q)
+    = is ∙ ap (λ (l : List ℕ). sets (sets p 0 l) (length s / 2) (decoded 32 q)) (decoded-codes 0 s (A .stored .named))
+    ∙ ap (λ (l : List ℕ). sets (sets p 0 (codes 0 s)) (length s / 2) l) (decoded-codes 32 q (A .question .named)) in
+    record {
+      root = e;
+      many = ap length is′ ∙ length-sets (sets p 0 (codes 0 s)) (length s / 2) (codes 32 q) ∙ length-sets p 0 (codes 0 s) ∙ n;
+      is = ap (take (length s / 2 + length q / 2)) is′ ∙ loaded s q p b;
+    }
 
 pub loaded-cut : (sig s q pool : List ℕ) (r : ℕ) → Loaded sig s q pool r → take (r + length q / 2) pool ≡ both s q
 loaded-cut sig s q pool r l = ap (λ (k : ℕ). take (k + length q / 2) pool) (l .root) ∙ l .is
