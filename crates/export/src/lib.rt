@@ -213,7 +213,8 @@ pub extern "C" fn azunkefogo_retrieve(
         (now (out .entry)) (retrieve relation (now (question .entry)) (length (now (out .entry))))
         (held (now (bytes .entry)) (now (used .entry)) (now (label .entry)) (now (link .entry))
         (now (sets0 .entry)) (now (sets1 .entry)) (now (sets2 .entry)) (now (sets3 .entry)))
-        (now (out .exit)) r (now (candidates .entry)) (now (candidates .exit)) (now (answers .entry)) (now (answers .exit)) ⌝ }
+        (now (out .exit)) r
+        (now (candidates .entry)) (now (candidates .exit)) (now (answers .entry)) (now (answers .exit)) ⌝ }
 {
     tell_both(
         retrieve::retrieve(
@@ -257,7 +258,8 @@ pub extern "C" fn azunkefogo_solve(
         (now (out .entry)) (solve slot (now (question .entry)) (length (now (out .entry))))
         (held (now (bytes .entry)) (now (used .entry)) (now (label .entry)) (now (link .entry))
         (now (sets0 .entry)) (now (sets1 .entry)) (now (sets2 .entry)) (now (sets3 .entry)))
-        (now (out .exit)) r (now (fields .entry)) (now (fields .exit)) (now (written .entry)) (now (written .exit)) ⌝ }
+        (now (out .exit)) r
+        (now (fields .entry)) (now (fields .exit)) (now (written .entry)) (now (written .exit)) ⌝ }
 {
     tell_both(
         retrieve::solve(

@@ -22,6 +22,7 @@ use Rattle.orders.specs.declared.Order.{Order}
 use Rattle.orders.specs.declared.Order.the-variants.{Open, Insert, Delete, WithKey, Retrieve, Solve, Nothing}
 use Rattle.orders.specs.Orders.{asked, ordered}
 use Rattle.orders.proofs.Order.{the-type}
+use Rattle.laws.specs.Sizes.{slotCount}
 
 -- the orders that change a table, and none at all
 abbrev pub Unasked : Order → Type 0
@@ -93,11 +94,11 @@ insert-writes T t =
     let s = slot (freeSlot (T .used)) in
     let room = roomFor (T .link) (T .label) (upsOf sig t) (endsOf sig t) in
     let roomy = pick room s (refuse Refusal.Keys) in
-    let free = pick (ltb (freeSlot (T .used)) 512) roomy (refuse Refusal.Full) in
+    let free = pick (ltb (freeSlot (T .used)) slotCount) roomy (refuse Refusal.Full) in
     let no = refused (refusal sig t) in
     guarded-writes T (insertAnswer T t)
     (either (eqb (refusal sig t) 0) free no
-    (either (ltb (freeSlot (T .used)) 512) roomy (refuse Refusal.Full) (either room s (refuse Refusal.Keys) refl refl) refl) refl)
+    (either (ltb (freeSlot (T .used)) slotCount) roomy (refuse Refusal.Full) (either room s (refuse Refusal.Keys) refl refl) refl) refl)
 
 delete-writes : (T : Tables) (s : ℕ) → written (deleting T s .answer) ≡ []
 unfolding deleting
