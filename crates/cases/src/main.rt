@@ -10,6 +10,7 @@ mod say;
 mod text;
 
 use calls::Reply;
+use laws::ANSWER;
 use laws::BYTES;
 use laws::LABEL;
 use laws::LINK;
@@ -24,6 +25,7 @@ use text::Case;
 use text::case_at;
 ghost use Prim.Native.Nat.{_+_, _*_, _≤_, _<_};
 ghost use lib.ListN.{length};
+ghost use Rattle.laws.specs.Sizes.{answerRoom};
 
 // The line, how many calls of its case are done, the length of the answer buffer, and the table that is lent too short.
 struct Place {
@@ -34,12 +36,12 @@ struct Place {
 }
 
 fn start() -> Place
-    ensures { λ r. ⌜ (r .round < 16777216) × (r .room ≤ 32768) ⌝ }
+    ensures { λ r. ⌜ (r .round < 16777216) × (r .room ≤ answerRoom) ⌝ }
 {
     Place {
         at: 0,
         round: 0,
-        room: 32768,
+        room: ANSWER,
         short: 8,
     }
 }
@@ -106,7 +108,7 @@ fn show(line: &[u8], n: usize) {
 }
 
 // Writes a case's line after its last call.
-fn finish(case: Case, reply: Reply, head: &[u8], given: &[u8; 512], out: &[u8; 32768])
+fn finish(case: Case, reply: Reply, head: &[u8], given: &[u8; 512], out: &[u8; ANSWER])
     requires { ⌜ case .length ≤ 512 ⌝ }
 {
     if 0 < case.left {
@@ -121,14 +123,14 @@ fn finish(case: Case, reply: Reply, head: &[u8], given: &[u8; 512], out: &[u8; 3
 
 // The room that a case sets, as far as there is any.
 fn room_after(case: Case, room: usize) -> usize
-    requires { ⌜ room ≤ 32768 ⌝ }
-    ensures { λ r. ⌜ r ≤ 32768 ⌝ }
+    requires { ⌜ room ≤ answerRoom ⌝ }
+    ensures { λ r. ⌜ r ≤ answerRoom ⌝ }
 {
     if case.word != b'b' {
         return room;
     }
-    if 32768 < case.number {
-        32768
+    if ANSWER < case.number {
+        ANSWER
     } else {
         case.number
     }
@@ -136,8 +138,8 @@ fn room_after(case: Case, room: usize) -> usize
 
 // After a call: the same line where more calls are left, or else the next one.
 fn place_after(case: Case, place: Place) -> Place
-    requires { ⌜ (place .at < case .next) × (case .left + place .round < 16777216) × (place .room ≤ 32768) ⌝ }
-    ensures { λ r. ⌜ (r .round < 16777216) × (r .room ≤ 32768)
+    requires { ⌜ (place .at < case .next) × (case .left + place .round < 16777216) × (place .room ≤ answerRoom) ⌝ }
+    ensures { λ r. ⌜ (r .round < 16777216) × (r .room ≤ answerRoom)
         × (place .at * 16777216 + place .round < r .at * 16777216 + r .round) ⌝ }
 {
     if 0 < case.left {
@@ -172,7 +174,7 @@ fn main() {
     let mut s1 = [0u64; SETS];
     let mut s2 = [0u64; SETS];
     let mut s3 = [0u64; SETS];
-    let mut out = [0u8; 32768];
+    let mut out = [0u8; ANSWER];
     let n = io::read_full(STDIN_FILENO, &mut input);
     let mut place = start();
     while place.at < n {

@@ -1,11 +1,13 @@
 // The line of what a case got: its first three words, then the answer as the log program writes it.
 use crate::text::Case;
 use calls::Reply;
+use laws::ANSWER;
 use laws::low;
 use laws::wide;
 use orders::Order;
 ghost use Prim.Native.Nat.{_≤_, _<_};
 ghost use lib.ListN.{length};
+ghost use Rattle.laws.specs.Sizes.{answerRoom};
 
 // The call that a case's word asks for.
 pub fn order_of(case: Case) -> Order {
@@ -69,12 +71,12 @@ fn say_argument(i: usize, term: &[u8], head: &[u8], line: &mut [u8]) -> usize {
 
 // How many bytes of the answer buffer an answer has: two a slot of a listing, or a record.
 fn written(order: Order, first: usize, second: usize) -> usize
-    ensures { λ r. ⌜ r ≤ 32768 ⌝ }
+    ensures { λ r. ⌜ r ≤ answerRoom ⌝ }
 {
     match order {
-        Order::WithKey => least(first, 16384) * 2,
-        Order::Retrieve(_) => least(second, 16384) * 2,
-        Order::Solve(_) => least(second, 32768),
+        Order::WithKey => least(first, ANSWER / 2) * 2,
+        Order::Retrieve(_) => least(second, ANSWER / 2) * 2,
+        Order::Solve(_) => least(second, ANSWER),
         _ => 0,
     }
 }
@@ -103,7 +105,7 @@ fn say_done(
     first: usize,
     second: usize,
     head: &[u8],
-    out: &[u8; 32768],
+    out: &[u8; ANSWER],
     line: &mut [u8],
 ) -> usize {
     let n = written(order_of(case), first, second);
@@ -128,7 +130,7 @@ pub fn say(
     reply: Reply,
     head: &[u8],
     given: &[u8],
-    out: &[u8; 32768],
+    out: &[u8; ANSWER],
     line: &mut [u8],
 ) -> usize {
     match reply {

@@ -54,3 +54,13 @@ freeHead = linkLength - 1
 -- the place of the root, beyond the eight places below each key
 abbrev pub rootPlace : ℕ
 rootPlace = 8 * keyLimit + 8
+
+-- THE LOG PROGRAM: 'at most 65,535 bytes', 'its answer buffer has 32,768 bytes', and the buffer of a line
+abbrev pub inputLimit : ℕ
+inputLimit = 65535
+
+abbrev pub answerRoom : ℕ
+answerRoom = 32768
+
+abbrev pub lineRoom : ℕ
+lineRoom = 2 * answerRoom + 64

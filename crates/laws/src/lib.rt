@@ -39,6 +39,13 @@ pub const FREE: usize = LINK - 1;
 
 pub const ROOT: u32 = 32776;
 
+// The log program: its input, its answer buffer, the buffer of a line.
+pub const INPUT: usize = 65535;
+
+pub const ANSWER: usize = 32768;
+
+pub const LINE: usize = 2 * ANSWER + 64;
+
 // A byte as a number.
 pub fn wide(x: u8) -> usize
     ensures { λ r. ⌜ (r ≡ x) × (r < 256) ⌝ }

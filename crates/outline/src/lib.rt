@@ -10,11 +10,11 @@ use variables::Bank;
 ghost use mathlib.Core.Path.{_≡_};
 ghost use mathlib.Core.List.{[], _∷_, _++_, map};
 ghost use Prim.Native.Nat.{ℕ, _+_, _-_, _*_, _/_, _≤_, _<_};
-ghost use lib.ListN.{length, getD, take, drop};
+ghost use lib.ListN.{length, take, drop};
 ghost use lib.Seq.{sets};
 ghost use Rattle.keys.specs.Keys.{endOf};
 ghost use Rattle.paths.specs.Ups.{kids, upsF};
-ghost use Rattle.terms.specs.Terms.{numbers};
+ghost use Rattle.terms.specs.Terms.{arity as arityOf, numbers};
 
 // The numbers of the items of t as they stand, at the start of `out`; how many.
 pub fn decode(t: &[u8], out: &mut [u16]) -> usize
@@ -62,9 +62,9 @@ fn push(stack: &mut [u16], top: usize, n: usize, a: usize) -> usize
 // The ups of the items, at the start of `out`; how many items the term has. The stack holds what is still to come.
 pub fn ups(sig: &[u8], items: &[u16], out: &mut [u8]) -> usize
     requires { ⌜ (length (now items) ≤ 32) × (length (now items) ≤ length (now out))
-        × ((x : ℕ) → getD (now sig) x 0 ≤ 8) ⌝ }
+        × ((x : ℕ) → arityOf (now sig) x ≤ 8) ⌝ }
     ensures { λ r. ⌜ (r ≤ length (now (items .entry)))
-        × (take r (now (out .exit)) ≡ upsF (λ x. getD (now (sig .entry)) x 0) 0 (0 ∷ []) (now (items .entry)))
+        × (take r (now (out .exit)) ≡ upsF (arityOf (now (sig .entry))) 0 (0 ∷ []) (now (items .entry)))
         × (drop r (now (out .exit)) ≡ drop r (now (out .entry))) ⌝ }
 {
     let mut stack = [0u16; 257];

@@ -2,8 +2,11 @@
 mod order;
 mod say;
 
+use laws::ANSWER;
 use laws::BYTES;
+use laws::INPUT;
 use laws::LABEL;
+use laws::LINE;
 use laws::LINK;
 use laws::SETS;
 use laws::USED;
@@ -34,8 +37,8 @@ fn step(
     s1: &mut [u64; SETS],
     s2: &mut [u64; SETS],
     s3: &mut [u64; SETS],
-    out: &mut [u8; 32768],
-    line: &mut [u8; 65600],
+    out: &mut [u8; ANSWER],
+    line: &mut [u8; LINE],
 ) -> Turn
     requires { ⌜ at < length (now input) ⌝ }
     ensures { λ r. ⌜ (at < r .next) × (r .next ≤ length (now (input .entry))) ⌝ }
@@ -69,7 +72,7 @@ fn step(
 }
 
 // Writes the first n bytes of a line to standard output.
-fn show(line: &[u8; 65600], n: usize) {
+fn show(line: &[u8; LINE], n: usize) {
     let whole = &line[..];
     if n <= whole.len() {
         io::write_all(STDOUT_FILENO, &whole[..n]);
@@ -78,7 +81,7 @@ fn show(line: &[u8; 65600], n: usize) {
 
 // Takes field after field, the first from the start of the input.
 fn main() {
-    let mut input = [0u8; 65536];
+    let mut input = [0u8; INPUT + 1];
     let mut bytes = [0u8; BYTES];
     let mut used = [0u64; USED];
     let mut label = [0u32; LABEL];
@@ -87,8 +90,8 @@ fn main() {
     let mut s1 = [0u64; SETS];
     let mut s2 = [0u64; SETS];
     let mut s3 = [0u64; SETS];
-    let mut out = [0u8; 32768];
-    let mut line = [0u8; 65600];
+    let mut out = [0u8; ANSWER];
+    let mut line = [0u8; LINE];
     let n = io::read_full(STDIN_FILENO, &mut input);
     let mut at: usize = 0;
     while at < n {

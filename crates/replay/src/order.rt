@@ -1,4 +1,5 @@
 // What the field at a place of the log orders (SCOPE.md, 'The log program').
+use laws::INPUT;
 use laws::number_at;
 use laws::wide;
 use log::Field;
@@ -75,7 +76,7 @@ pub fn task_at(input: &[u8], at: usize) -> Task
     requires { ⌜ at < length (now input) ⌝ }
     ensures { λ r. ⌜ (r .start ≤ r .end) × (at < r .end) × (r .end ≤ length (now (input .entry))) ⌝ }
 {
-    if 65535 < input.len() {
+    if INPUT < input.len() {
         return Task {
             order: Order::Nothing,
             start: at,

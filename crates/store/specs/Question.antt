@@ -43,7 +43,7 @@ pub record Named (label : List ℕ) (m : ℕ) (K : Key) : Type 0 where
 -- the steps so far lead to a place in the table, or to none
 data Going (label : List ℕ) (p : ℕ) (P : Place) : Type 0 where
   here : At label p P → Going label p P
-  nowhere : 32768 ≤ p → p < rootPlace → ((n : ℕ) → At label n P → ⊥) → Going label p P
+  nowhere : 8 * keyLimit ≤ p → p < rootPlace → ((n : ℕ) → At label n P → ⊥) → Going label p P
 
 -- a step that a key may have
 step-small : (sig : List ℕ) (f i : ℕ) → Signed sig → stepGood sig f i ≡ true → (f < 257) × (i - 1 < 8)
@@ -74,7 +74,7 @@ end-same sig e g h = go (decLt e (length sig)) h
 
 module _ (link label : List ℕ) (mem′ : ℕ → ℕ → Type 0) (R : ℕ → Place → ℕ → Type 0) (r : Rep link label mem′ R) where
   -- no key stands at a place that is none
-  none-there : (p e : ℕ) → 32768 ≤ p → p < rootPlace → e < 257 → keyLimit ≤ find link label (lab p e)
+  none-there : (p e : ℕ) → 8 * keyLimit ≤ p → p < rootPlace → e < 257 → keyLimit ≤ find link label (lab p e)
   none-there p e lo hi l = go (decLt (find link label (lab p e)) keyLimit)
     where
       not-at : (n : ℕ) (Q : Place) → At label n Q → n ≡ p → ⊥

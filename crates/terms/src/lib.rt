@@ -6,10 +6,10 @@ use laws::wide;
 ghost use mathlib.Core.Path.{_≡_};
 ghost use Prim.Native.Nat.{_+_, _-_, _*_, _≤_, _<_, min};
 ghost use lib.Dec.{eqb};
-ghost use lib.ListN.{length, take, drop, getD};
+ghost use lib.ListN.{length, take, drop};
 ghost use Rattle.laws.specs.Choice.{pick};
 ghost use Rattle.terms.specs.Refusals.{numberOf, checkedNumber};
-ghost use Rattle.terms.specs.Terms.{span, declared as isDeclared, itemsGood, aritiesGood, sigRefusal, refusal, firstItem, argRefusal, argBytes, argStart};
+ghost use Rattle.terms.specs.Terms.{arity as arityOf, span, declared as isDeclared, itemsGood, aritiesGood, sigRefusal, refusal, firstItem, argRefusal, argBytes, argStart};
 
 // Why a call is refused, in the order of SCOPE.md's numbers.
 pub enum Refusal {
@@ -77,7 +77,7 @@ impl Checked {
 
 // The number of arguments of symbol x; none for what is no symbol.
 pub fn arity(sig: &[u8], x: usize) -> usize
-    ensures { λ r. ⌜ (r ≡ getD (now (sig .entry)) x 0) × (r < 256) ⌝ }
+    ensures { λ r. ⌜ (r ≡ arityOf (now (sig .entry)) x) × (r < 256) ⌝ }
 {
     if x < sig.len() { wide(sig[x]) } else { 0 }
 }
@@ -164,7 +164,7 @@ pub fn check_signature(sig: &[u8]) -> Checked
 // The arguments that item x brings; what is no item brings more than a term can close, so that the pass needs no way
 // out for it.
 fn brings(sig: &[u8], x: usize) -> usize
-    ensures { λ r. ⌜ (r ≡ pick (isDeclared (length (now (sig .entry))) x) (getD (now (sig .entry)) x 0) 4096)
+    ensures { λ r. ⌜ (r ≡ pick (isDeclared (length (now (sig .entry))) x) (arityOf (now (sig .entry)) x) 4096)
         × (r ≤ 4096) ⌝ }
 {
     if x < sig.len() {

@@ -3,12 +3,13 @@ use native.Mathlib.Omega.{arith}
 use mathlib.Core.Path.{_≡_, _∙_, refl, sym}
 use lib.ListN.{length}
 use lib.Seq.{length-take-le}
+use Rattle.laws.specs.Sizes.{answerRoom, bytesLength, usedLength, labelLength, linkLength, setLength}
 use Rattle.cases.proofs.main.Statement.{statement}
 use Rattle.cases.proofs.main.Tie as tie
 
 abbrev Inv-loop : tie.InvT-loop
 Inv-loop input given₀ bytes₀ used₀ label₀ link₀ s0₀ s1₀ s2₀ s3₀ out₀ n place₀ given bytes used label link s0 s1 s2 s3 out place =
-    (n ≤ 65536) × (place .round < 16777216) × (place .room ≤ 32768) × (length bytes ≡ 33538) × (length used ≡ 8) × (length label ≡ 4096) × (length link ≡ 8190) × (length s0 ≡ 8192) × (length s1 ≡ 8192) × (length s2 ≡ 8192) × (length s3 ≡ 8192) × (length out ≡ 32768)
+    (n ≤ 65536) × (place .round < 16777216) × (place .room ≤ answerRoom) × (length bytes ≡ bytesLength) × (length used ≡ usedLength) × (length label ≡ labelLength) × (length link ≡ linkLength) × (length s0 ≡ setLength) × (length s1 ≡ setLength) × (length s2 ≡ setLength) × (length s3 ≡ setLength) × (length out ≡ answerRoom)
 
 abbrev μ-loop : tie.MeasureT-loop
 μ-loop input given₀ bytes₀ used₀ label₀ link₀ s0₀ s1₀ s2₀ s3₀ out₀ n place₀ given bytes used label link s0 s1 s2 s3 out place =
