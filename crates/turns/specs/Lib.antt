@@ -1,3 +1,4 @@
 pub mod Printed
 pub mod Turns
 pub mod Spoken
+pub mod Example
