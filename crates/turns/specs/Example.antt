@@ -96,7 +96,7 @@ Printing =
     × (printed (1 ∷ 0 ∷ 4 ∷ 0 ∷ 0 ∷ []) ≡ stopped)
     -- 'a first field that is not tag 1'
     × (printed (2 ∷ 0 ∷ 4 ∷ 0 ∷ 3 ∷ 0 ∷ 0 ∷ []) ≡ stopped)
-    -- 'A whole first field with a bad signature is `open no 2`': 01 0001 09, and a field of tag 6 and a cut one after it
+    -- 'A whole first field with a bad signature is `open no 2`': 01 0001 09, then a field of tag 6 and a cut one
     × (printed (1 ∷ 0 ∷ 1 ∷ 9 ∷ 6 ∷ 0 ∷ 0 ∷ 1 ∷ []) ≡ (111 ∷ 112 ∷ 101 ∷ 110 ∷ 32 ∷ 110 ∷ 111 ∷ 32 ∷ 50 ∷ 10 ∷ []))
     -- 'A tag 2 payload of no bytes is `insert no 6`'
     × (printed (signed ++ (2 ∷ 0 ∷ 0 ∷ []))

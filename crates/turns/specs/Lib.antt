@@ -2,3 +2,5 @@ pub mod Printed
 pub mod Turns
 pub mod Spoken
 pub mod Example
+pub mod Chosen
+pub mod LongestLine
