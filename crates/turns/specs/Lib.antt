@@ -4,3 +4,4 @@ pub mod Spoken
 pub mod Example
 pub mod Chosen
 pub mod LongestLine
+pub mod LogApplies
