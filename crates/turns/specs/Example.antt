@@ -75,16 +75,16 @@ unfolding printed textOfAll linesOf firstLines laterLines laterCall firstCall fi
 example = refl
 
 -- the field of the example's signature
-abbrev pub signed : List ℕ
-signed = 1 ∷ 0 ∷ 4 ∷ 0 ∷ 0 ∷ 2 ∷ 1 ∷ []
+abbrev pub signatureField : List ℕ
+signatureField = 1 ∷ 0 ∷ 4 ∷ 0 ∷ 0 ∷ 2 ∷ 1 ∷ []
 
 -- its line, `open ok`
-abbrev pub opened : List ℕ
-opened = 111 ∷ 112 ∷ 101 ∷ 110 ∷ 32 ∷ 111 ∷ 107 ∷ 10 ∷ []
+abbrev pub openLine : List ℕ
+openLine = 111 ∷ 112 ∷ 101 ∷ 110 ∷ 32 ∷ 111 ∷ 107 ∷ 10 ∷ []
 
 -- `log no 16`
-abbrev pub stopped : List ℕ
-stopped = 108 ∷ 111 ∷ 103 ∷ 32 ∷ 110 ∷ 111 ∷ 32 ∷ 49 ∷ 54 ∷ 10 ∷ []
+abbrev pub logLine : List ℕ
+logLine = 108 ∷ 111 ∷ 103 ∷ 32 ∷ 110 ∷ 111 ∷ 32 ∷ 49 ∷ 54 ∷ 10 ∷ []
 
 -- 'LOG is printed as `log no 16`, and the program stops', and what stands beside it
 abbrev pub Printing : Type 0
@@ -92,31 +92,31 @@ Printing =
     -- 'An empty input prints nothing'
     (printed [] ≡ [])
     -- 'a cut field': a head of two bytes, and a payload of two bytes where four are said; 'A cut first field is 16'
-    × (printed (1 ∷ 0 ∷ []) ≡ stopped)
-    × (printed (1 ∷ 0 ∷ 4 ∷ 0 ∷ 0 ∷ []) ≡ stopped)
+    × (printed (1 ∷ 0 ∷ []) ≡ logLine)
+    × (printed (1 ∷ 0 ∷ 4 ∷ 0 ∷ 0 ∷ []) ≡ logLine)
     -- 'a first field that is not tag 1'
-    × (printed (2 ∷ 0 ∷ 4 ∷ 0 ∷ 3 ∷ 0 ∷ 0 ∷ []) ≡ stopped)
+    × (printed (2 ∷ 0 ∷ 4 ∷ 0 ∷ 3 ∷ 0 ∷ 0 ∷ []) ≡ logLine)
     -- 'A whole first field with a bad signature is `open no 2`': 01 0001 09, then a field of tag 6 and a cut one
     × (printed (1 ∷ 0 ∷ 1 ∷ 9 ∷ 6 ∷ 0 ∷ 0 ∷ 1 ∷ []) ≡ (111 ∷ 112 ∷ 101 ∷ 110 ∷ 32 ∷ 110 ∷ 111 ∷ 32 ∷ 50 ∷ 10 ∷ []))
     -- 'A tag 2 payload of no bytes is `insert no 6`'
-    × (printed (signed ++ (2 ∷ 0 ∷ 0 ∷ []))
-    ≡ opened ++ (105 ∷ 110 ∷ 115 ∷ 101 ∷ 114 ∷ 116 ∷ 32 ∷ 110 ∷ 111 ∷ 32 ∷ 54 ∷ 10 ∷ []))
+    × (printed (signatureField ++ (2 ∷ 0 ∷ 0 ∷ []))
+    ≡ openLine ++ (105 ∷ 110 ∷ 115 ∷ 101 ∷ 114 ∷ 116 ∷ 32 ∷ 110 ∷ 111 ∷ 32 ∷ 54 ∷ 10 ∷ []))
     -- 'tag 4 without a byte'; of one byte it has its fixed part, and an empty term
-    × (printed (signed ++ (4 ∷ 0 ∷ 0 ∷ [])) ≡ opened ++ stopped)
-    × (printed (signed ++ (4 ∷ 0 ∷ 1 ∷ 4 ∷ []))
-    ≡ opened ++ (114 ∷ 101 ∷ 116 ∷ 114 ∷ 105 ∷ 101 ∷ 118 ∷ 101 ∷ 32 ∷ 110 ∷ 111 ∷ 32 ∷ 54 ∷ 10 ∷ []))
+    × (printed (signatureField ++ (4 ∷ 0 ∷ 0 ∷ [])) ≡ openLine ++ logLine)
+    × (printed (signatureField ++ (4 ∷ 0 ∷ 1 ∷ 4 ∷ []))
+    ≡ openLine ++ (114 ∷ 101 ∷ 116 ∷ 114 ∷ 105 ∷ 101 ∷ 118 ∷ 101 ∷ 32 ∷ 110 ∷ 111 ∷ 32 ∷ 54 ∷ 10 ∷ []))
     -- 'tag 5 with fewer than two'; of two bytes it has its fixed part, and 4 ranks before 6
-    × (printed (signed ++ (5 ∷ 0 ∷ 1 ∷ 0 ∷ [])) ≡ opened ++ stopped)
-    × (printed (signed ++ (5 ∷ 0 ∷ 2 ∷ 0 ∷ 0 ∷ []))
-    ≡ opened ++ (115 ∷ 111 ∷ 108 ∷ 118 ∷ 101 ∷ 32 ∷ 110 ∷ 111 ∷ 32 ∷ 52 ∷ 10 ∷ []))
+    × (printed (signatureField ++ (5 ∷ 0 ∷ 1 ∷ 0 ∷ [])) ≡ openLine ++ logLine)
+    × (printed (signatureField ++ (5 ∷ 0 ∷ 2 ∷ 0 ∷ 0 ∷ []))
+    ≡ openLine ++ (115 ∷ 111 ∷ 108 ∷ 118 ∷ 101 ∷ 32 ∷ 110 ∷ 111 ∷ 32 ∷ 52 ∷ 10 ∷ []))
     -- 'for tag 3 one that is not exactly two bytes'
-    × (printed (signed ++ (3 ∷ 0 ∷ 1 ∷ 0 ∷ [])) ≡ opened ++ stopped)
-    × (printed (signed ++ (3 ∷ 0 ∷ 3 ∷ 0 ∷ 0 ∷ 0 ∷ [])) ≡ opened ++ stopped)
+    × (printed (signatureField ++ (3 ∷ 0 ∷ 1 ∷ 0 ∷ [])) ≡ openLine ++ logLine)
+    × (printed (signatureField ++ (3 ∷ 0 ∷ 3 ∷ 0 ∷ 0 ∷ 0 ∷ [])) ≡ openLine ++ logLine)
     -- 'a later field that is tag 1'
-    × (printed (signed ++ (1 ∷ 0 ∷ 4 ∷ 0 ∷ 0 ∷ 2 ∷ 1 ∷ [])) ≡ opened ++ stopped)
+    × (printed (signatureField ++ (1 ∷ 0 ∷ 4 ∷ 0 ∷ 0 ∷ 2 ∷ 1 ∷ [])) ≡ openLine ++ logLine)
     -- 'an unknown tag', and 'a cut field' after the first
-    × (printed (signed ++ (6 ∷ 0 ∷ 0 ∷ [])) ≡ opened ++ stopped)
-    × (printed (signed ++ (2 ∷ 0 ∷ 4 ∷ 0 ∷ 0 ∷ [])) ≡ opened ++ stopped)
+    × (printed (signatureField ++ (6 ∷ 0 ∷ 0 ∷ [])) ≡ openLine ++ logLine)
+    × (printed (signatureField ++ (2 ∷ 0 ∷ 4 ∷ 0 ∷ 0 ∷ [])) ≡ openLine ++ logLine)
 
 pub printing : Printing
 unfolding printed textOfAll linesOf firstLines laterLines laterCall firstCall fieldsFrom fieldsWithin before fieldAt digits decimal hex slotList recordText plainLine refusedLine slotLine foundLine solvedLine answered empty after put freeFrom inUse keysFrom distinct place? key? candidates answers slotsFrom longFrom listed sigRefusal aritiesGood refusal numbers span declared itemsGood isCandidate candidate agree agreeAll treeOf keysOf endOf keysT keysA forest firsts others top stands bindings? solution solve by-free by-size step face face-var face-bound var-symbol var-var in? once-cases ℕ-discrete one at-bind at-swap at-follow decLe terms? codes moved matcher matching against items? item? same? recordOf countOf listedFrom bytes fieldBytes written

@@ -5,3 +5,4 @@ pub mod Example
 pub mod Chosen
 pub mod LongestLine
 pub mod LogApplies
+pub mod EachField

@@ -62,12 +62,12 @@ abbrev pub LogApplies : List ℕ → Type 0
 LogApplies s = (inputLimit < length s) ⊎ ((i : ℕ) × Faulty i (fieldOr (fieldsOf s) i) × (SignatureRefused s → ⊥))
 
 -- THE FIELDS of an input lie within it, and none is the end
-abbrev Lies : List ℕ → Field → Type 0
+abbrev pub Lies : List ℕ → Field → Type 0
 Lies s End = ⊥
 Lies s Cut = Unit {0}
 Lies s (Whole tag start n) = start + n ≤ length s
 
-abbrev AllLie : List ℕ → List Field → Type 0
+abbrev pub AllLie : List ℕ → List Field → Type 0
 AllLie s [] = Unit {0}
 AllLie s (f ∷ fs) = Lies s f × AllLie s fs
 
@@ -84,7 +84,7 @@ within-lie zero s at = tt
 within-lie (suc k) s at =
     before-lies s at (fieldAt s at) (fieldsWithin k s (placeAfter s at)) refl (within-lie k s (placeAfter s at))
 
-fields-lie : (s : List ℕ) → AllLie s (fieldsOf s)
+pub fields-lie : (s : List ℕ) → AllLie s (fieldsOf s)
 unfolding fieldsFrom
 fields-lie s = within-lie (length s - 0) s 0
 
@@ -92,7 +92,7 @@ payload-length : (s : List ℕ) (start n : ℕ) → start + n ≤ length s → l
 payload-length s start n h = omega (arith, h, length-take n (drop start s), length-drop start s)
 
 -- THE CALL of a field: there is none exactly where the field is faulty
-abbrev Verdict : ℕ → Field → Option Call → Type 0
+abbrev pub Verdict : ℕ → Field → Option Call → Type 0
 Verdict i f none = Faulty i f
 Verdict i f (some c) = Faulty i f → ⊥
 
@@ -198,7 +198,7 @@ module _ (i tag start n : ℕ) where
       chosen Says (eqb tag 5) _ _ (λ e. solve-says (eqb-true tag 5 e) p l) (λ d.
       other-says (eqb-false tag 2 a) (eqb-false tag 3 b) (eqb-false tag 4 c) (eqb-false tag 5 d) (ℕ-discrete tag 1)))))
 
-later-verdict : (i : ℕ) (s : List ℕ) (f : Field) → Lies s f → Verdict (suc i) f (callIn answerRoom false s f)
+pub later-verdict : (i : ℕ) (s : List ℕ) (f : Field) → Lies s f → Verdict (suc i) f (callIn answerRoom false s f)
 later-verdict i s End h = absurd h
 later-verdict i s Cut h = tt
 later-verdict i s (Whole tag start n) h = later-says i tag start n (payload s start n) (payload-length s start n h)
@@ -207,18 +207,18 @@ later-verdict i s (Whole tag start n) h = later-says i tag start n (payload s st
 log-answer : (c : Call) (a : Answer) → log ≡ answer c a → ⊥
 log-answer c a e = let z : _≡_ {A = ℕ} 0 1 = cc in omega arith
 
-abbrev SomeFaulty : List Field → Type 0
+abbrev pub SomeFaulty : List Field → Type 0
 SomeFaulty fs = (j : ℕ) × Faulty (suc j) (fieldOr fs j)
 
 none-faulty : SomeFaulty [] → ⊥
 unfolding fieldOr
 none-faulty (j, w) = w
 
-faulty-here : (f : Field) (fs : List Field) → Faulty 1 f → SomeFaulty (f ∷ fs)
+pub faulty-here : (f : Field) (fs : List Field) → Faulty 1 f → SomeFaulty (f ∷ fs)
 unfolding fieldOr
 faulty-here f fs w = (0, w)
 
-faulty-there : (f : Field) (fs : List Field) → SomeFaulty fs → SomeFaulty (f ∷ fs)
+pub faulty-there : (f : Field) (fs : List Field) → SomeFaulty fs → SomeFaulty (f ∷ fs)
 unfolding fieldOr
 faulty-there f fs (j, w) = (suc j, faulty-later j (suc j) (fieldOr fs j) w)
 
@@ -247,11 +247,11 @@ later-log s st (f ∷ fs) h =
         into x = ⊎-elim (λ y. absurd (w y)) (λ y. inr (ih (moved st (some c)) .1 y)) (faulty-which f fs x)
 
 -- THE FIRST FIELD: there is no call exactly where it is faulty, and the call is refused exactly where its signature is
-abbrev Stops : Answer → Type 0
+abbrev pub Stops : Answer → Type 0
 Stops (refused n) = Unit {0}
 Stops (done a b w) = ⊥
 
-abbrev FirstVerdict : List ℕ → Field → Option Call → Type 0
+abbrev pub FirstVerdict : List ℕ → Field → Option Call → Type 0
 FirstVerdict s f none = Faulty 0 f
 FirstVerdict s f (some c) = (Faulty 0 f → ⊥) × (Stops (answered unopened c) ↔ RefusedSignature s f)
 
@@ -263,7 +263,7 @@ open-stops p = go (eqb (sigRefusal p) 0) refl
     go true e = ((λ x. absurd x), (λ m. absurd (m (eqb-true (sigRefusal p) 0 e))))
     go false e = ((λ x. eqb-false (sigRefusal p) 0 e), (λ m. tt))
 
-first-verdict : (s : List ℕ) (f : Field) → Lies s f → FirstVerdict s f (callIn answerRoom true s f)
+pub first-verdict : (s : List ℕ) (f : Field) → Lies s f → FirstVerdict s f (callIn answerRoom true s f)
 unfolding firstCall
 first-verdict s End h = absurd h
 first-verdict s Cut h = tt
@@ -282,7 +282,7 @@ faulty-first s End w r = r
 faulty-first s Cut w r = r
 faulty-first s (Whole tag start n) w r = right-first tag n (r .0) w
 
-abbrev FaultyIn : List ℕ → List Field → Type 0
+abbrev pub FaultyIn : List ℕ → List Field → Type 0
 FaultyIn s fs = (i : ℕ) × Faulty i (fieldOr fs i) × (RefusedSignature s (fieldOr fs 0) → ⊥)
 
 first-log : (s : List ℕ) (fs : List Field) → AllLie s fs → In log (firstLines s fs) ↔ FaultyIn s fs
@@ -337,7 +337,7 @@ log-exactly s = go (ltb inputLimit (length s)) refl
         into (inr x) = first .1 x
 
 -- 'AND THE PROGRAM STOPS': nothing follows LOG
-abbrev Ending : List Line → Type 0
+abbrev pub Ending : List Line → Type 0
 Ending [] = Unit {0}
 Ending (answer c a ∷ l) = Ending l
 Ending (log ∷ l) = l ≡ []
@@ -369,11 +369,11 @@ first-ending s (f ∷ fs) =
     then-ending unopened o (unlessRefused unopened o (laterLines s (moved unopened o) fs))
     (unless-ending unopened o (laterLines s (moved unopened o) fs) (later-ending s (moved unopened o) fs))
 
-lines-ending : (s : List ℕ) → Ending (linesOf s)
+pub lines-ending : (s : List ℕ) → Ending (linesOf s)
 unfolding linesOf
 lines-ending s = chosen Ending (ltb inputLimit (length s)) _ _ (λ e. refl) (λ e. first-ending s (fieldsOf s))
 
-not-nothing : (l r : List Line) (x : Line) → l ++ (x ∷ r) ≡ [] → ⊥
+pub not-nothing : (l r : List Line) (x : Line) → l ++ (x ∷ r) ≡ [] → ⊥
 not-nothing [] r x e = let z : _≡_ {A = ℕ} 0 1 = cc in omega arith
 not-nothing (y ∷ l) r x e = let z : _≡_ {A = ℕ} 0 1 = cc in omega arith
 
