@@ -33,7 +33,7 @@ pub open-stand : (T : Tables) (sig : List ℕ) → ample T ≡ true → sigRefus
 unfolding ample empty
 open-stand T sig l s = record { signed = s; holds = open-holds T sig (long _ _ _ _ _ _ _ _ l) s }
 
-signature-two : (sig : List ℕ) → (sigRefusal sig ≡ 0 → ⊥) → sigRefusal sig ≡ 2
+pub signature-two : (sig : List ℕ) → (sigRefusal sig ≡ 0 → ⊥) → sigRefusal sig ≡ 2
 unfolding sigRefusal
 signature-two sig n = go (eqb (length sig) 0) (ltb 256 (length sig)) (aritiesGood sig) n
   where

@@ -6,3 +6,4 @@ pub mod Chosen
 pub mod LongestLine
 pub mod LogApplies
 pub mod EachField
+pub mod Prints

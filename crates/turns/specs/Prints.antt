@@ -1,0 +1,359 @@
+-- SCOPE.md, 'The log program', over a whole input: the turns one after another print just what `printed` says.
+use Prim.Native.Nat.{ℕ, _+_, _-_, _*_, _/_, _≤_, _<_, min}
+use mathlib.Core.Path.{_≡_, refl, sym, ap, _∙_}
+use mathlib.Core.Bool.{Bool, true, false}
+use mathlib.Core.Option.{Option, some, none}
+use mathlib.Core.List.{List, [], _∷_, _++_}
+use native.Mathlib.Omega.{arith}
+use native.Mathlib.Decide.{decLt}
+use borrow.Author.Tests.{eqb-true, eqb-false, eq-eqb, ne-eqb, lt-ltb, le-ltb, ltb-false, lt-leb}
+use lib.Dec.{ltb, leb, eqb}
+use lib.ListN.{length, getD, take, drop}
+use lib.Seq.{sets, length-sets, take-append-seam}
+use Rattle.laws.specs.Choice.{pick}
+use Rattle.laws.specs.Sizes.{inputLimit, answerRoom, lineRoom, keyLimit, slotCount}
+use Rattle.slots.specs.Slots.{listed}
+use Rattle.slots.proofs.Listing.{length-listed}
+use Rattle.terms.specs.Terms.{sigRefusal, refusal}
+use Rattle.theory.specs.Unify.{Bind, full}
+use Rattle.keys.specs.Bytes.{isKey}
+use Rattle.definitions.specs.Records.{recordOf, countOf}
+use Rattle.definitions.specs.Decisions.{bindings?}
+use Rattle.definitions.specs.Answers.{Answer, refused, done, refusalIn, firstIn, secondIn, written, unless, recorded, longFrom}
+use Rattle.layout.specs.Tables.{Tables, ample}
+use Rattle.calls.specs.Outcome.{Outcome, Result, told}
+use Rattle.library.specs.Store.{Store, Call, openWith, insert, delete, withKey, retrieve, solve, roomOf, inUse, firstFree, put, keyCount, keyed, answers, candidates, solving, answered, empty, after}
+use Rattle.store.specs.Calls.{opening}
+use Rattle.meaning.specs.Runs.{carried, Called}
+use Rattle.meaning.specs.Stand.{Stand}
+use Rattle.meaning.specs.CallsMean.{call-means}
+use Rattle.meaning.specs.Changing.{signature-two}
+use Rattle.meaning.specs.Opening.{open-number, open-run}
+use Rattle.meaning.specs.Told.{front-bytes}
+use Rattle.log.specs.declared.field.Field.{Field}
+use Rattle.log.specs.declared.field.Field.the-variants.{End, Cut, Whole}
+use Rattle.log.specs.Fields.{fieldAt, lengthAt}
+use Rattle.log.specs.Reading.{placeAfter, takenAt, before, fieldsFrom, fieldsOf}
+use Rattle.log.specs.Lines.{Put, refusedLine, plainLine}
+use Rattle.log.proofs.Fields.{field-end, taken-onward}
+use Rattle.log.proofs.Reading.{next-first}
+use Rattle.turns.specs.Chosen.{chosen}
+use Rattle.turns.specs.Printed.{firstCall, deleteCall, retrieveCall, solveCall, laterCall, payload, callIn, Line, answer, log, moved, lineThen, laterLines, unlessRefused, unopened, firstLines, linesOf, wordOf, logWord, doneText, answerText, textOf, textOfAll, printed}
+use Rattle.turns.specs.Turns.{callAt, placePast, resultOf, toldBytes, lineOf, stopsAfter, madeAt, lineAt, nextAt, Turned}
+use Rattle.turns.specs.LongestLine.{Lent, field-lent, answer-fits, log-fits}
+
+-- THE PROGRAM'S LOOP: turns from a place on until the input's end, each with the promise of `turns::turn`; what is
+-- shown of each is the first bytes of its line buffer, as many as it says. T and out are the tables and the answer
+-- buffer before, `text` is all that is shown
+pub data Shown (s : List ℕ) : ℕ → Tables → List ℕ → List ℕ → Type 0 where
+  ended : (at : ℕ) (T : Tables) (out : List ℕ) → length s ≤ at → Shown s at T out []
+  turning : (at : ℕ) (T : Tables) (out line₀ : List ℕ) (S : Tables) (out′ line : List ℕ) (length′ next : ℕ) (text : List ℕ)
+      → at < length s → length line₀ ≡ lineRoom → Turned s at T out line₀ S out′ line length′ next
+      → Shown s next S out′ text → Shown s at T out (take length′ line ++ text)
+
+-- WHAT AN ANSWER'S BYTES ARE: a refusal has a number, a listing two bytes a slot, a record the length that is told
+abbrev Shape : Call → Answer → Type 0
+Shape c (refused n) = n ≡ 0 → ⊥
+Shape (openWith sig) (done a b w) = Unit {0}
+Shape (insert t) (done a b w) = Unit {0}
+Shape (delete s) (done a b w) = Unit {0}
+Shape (withKey k room) (done a b w) = Unit {0}
+Shape (retrieve r q room) (done a b w) = (length w ≡ 2 * b) × (length w ≤ room)
+Shape (solve s q room) (done a b w) = (length w ≡ b) × (length w ≤ room)
+
+recorded-shape : (s room : ℕ) (q : List ℕ) (B : Option (List Bind)) → Shape (solve s q room) (recorded B room)
+recorded-shape s room q none = λ z. omega arith
+recorded-shape s room q (some B) =
+    chosen (Shape (solve s q room)) (longFrom (full B) 64 0) _ _ (λ e z. omega arith) (λ e.
+    chosen (Shape (solve s q room)) (ltb room (length (recordOf (full B)))) _ _ (λ f z. omega arith) (λ f.
+    (refl, ltb-false room (length (recordOf (full B))) f)))
+
+solving-shape : (sig : List ℕ) (s room : ℕ) (q : List ℕ) (o : Option (List ℕ)) → Shape (solve s q room) (solving sig o q room)
+solving-shape sig s room q none = λ z. omega arith
+solving-shape sig s room q (some t) =
+    chosen (Shape (solve s q room)) (eqb (refusal sig q) 0) _ _ (λ e. recorded-shape s room q (bindings? sig t q)) (λ e. eqb-false (refusal sig q) 0 e)
+
+answered-shape : (st : Store) (c : Call) → Shape c (answered st c)
+unfolding answered
+answered-shape st (openWith sig) = chosen (Shape (openWith sig)) (eqb (sigRefusal sig) 0) _ _ (λ e. tt) (λ e z. omega arith)
+answered-shape st (insert t) =
+    chosen (Shape (insert t)) (eqb (refusal (st .signature) t) 0) _ _ (λ e.
+    chosen (Shape (insert t)) (eqb (firstFree st) slotCount) _ _ (λ f z. omega arith) (λ f.
+    chosen (Shape (insert t)) (ltb keyLimit (keyCount (put st (firstFree st) (some t)))) _ _ (λ g z. omega arith) (λ g. tt)))
+    (λ e. eqb-false (refusal (st .signature) t) 0 e)
+answered-shape st (delete s) = chosen (Shape (delete s)) (inUse st s) _ _ (λ e. tt) (λ e z. omega arith)
+answered-shape st (withKey k room) =
+    chosen (Shape (withKey k room)) (isKey (st .signature) k) _ _ (λ e.
+    chosen (Shape (withKey k room)) (ltb room (2 * length (keyed st k))) _ _ (λ f z. omega arith) (λ f. tt)) (λ e z. omega arith)
+answered-shape st (retrieve r q room) =
+    chosen (Shape (retrieve r q room)) (ltb 4 r) _ _ (λ e z. omega arith) (λ e.
+    chosen (Shape (retrieve r q room)) (eqb (refusal (st .signature) q) 0) _ _ (λ f.
+    chosen (Shape (retrieve r q room)) (ltb room (2 * length (answers st r q))) _ _ (λ g z. omega arith) (λ g.
+    (length-listed (answers st r q), omega (arith, length-listed (answers st r q), ltb-false room (2 * length (answers st r q)) g))))
+    (λ f. eqb-false (refusal (st .signature) q) 0 f))
+answered-shape st (solve s q room) =
+    chosen (Shape (solve s q room)) (inUse st s) _ _ (λ e. solving-shape (st .signature) s room q (st .held s)) (λ e z. omega arith)
+
+-- THE LINE of an answer, from what came out of its call
+take-front : (w out : List ℕ) (n : ℕ) → length w ≤ length out → n ≡ length w → take n (sets out 0 w) ≡ w
+take-front w out n h e = rw (e, front-bytes w out h) (take-append-seam w (drop (length w) out))
+
+abbrev toldText : Call → Answer → List ℕ → List ℕ
+toldText c a out =
+    pick (eqb (refusalIn a) 0) (doneText c (firstIn a) (secondIn a) (toldBytes c (secondIn a) (sets out 0 (written a))))
+    (refusedLine (wordOf c) (refusalIn a))
+
+told-done : (c : Call) (a b : ℕ) (w out : List ℕ) → roomOf c ≤ length out → Shape c (done a b w) → doneText c a b (toldBytes c b (sets out 0 w)) ≡ doneText c a b w
+told-done (openWith sig) a b w out h g = refl
+told-done (insert t) a b w out h g = refl
+told-done (delete s) a b w out h g = refl
+told-done (withKey k room) a b w out h g = refl
+told-done (retrieve r q room) a b w out h g =
+    let n = length-sets out 0 w in
+    ap (doneText (retrieve r q room) a b) (take-front w out (min b (length (sets out 0 w) / 2) * 2) (omega (arith, g .1)) (omega (arith, g .0, g .1, n)))
+told-done (solve s q room) a b w out h g =
+    let n = length-sets out 0 w in
+    ap (doneText (solve s q room) a b) (take-front w out (min b (length (sets out 0 w))) (omega (arith, g .1)) (omega (arith, g .0, g .1, n)))
+
+told-is : (c : Call) (a : Answer) (out : List ℕ) → roomOf c ≤ length out → Shape c a → toldText c a out ≡ answerText c a
+told-is c (refused n) out h g = rw (ne-eqb n 0 g)
+told-is c (done a b w) out h g = told-done c a b w out h g
+
+line-answer : (T : Tables) (st : Store) (c : Call) (out : List ℕ) → Stand T st → roomOf c ≤ length out → lineOf (some c) (told out (carried T c)) ≡ answerText c (answered st c)
+line-answer T st c out h l =
+    ap (λ (a : Answer). toldText c a out) (call-means T st c h .answer) ∙ told-is c (answered st c) out l (answered-shape st c)
+
+-- A TURN that shows a whole line
+line-shown : (line₀ line text : List ℕ) (n : ℕ) → length line₀ ≡ lineRoom → Put line₀ line 0 text n → length text ≤ lineRoom → take n line ≡ text
+line-shown line₀ line text n e p h = rw (p .line-is) (take-front text line₀ n (omega arith) (omega (arith, p .next-is)))
+
+-- nothing is shown past the end
+shown-end : (s : List ℕ) (at : ℕ) (T : Tables) (out text : List ℕ) → Shown s at T out text → length s ≤ at → text ≡ []
+shown-end s at T out text (ended a U o h) l = refl
+shown-end s at T out text (turning a U o line₀ S out′ line n next rest h e t r) l = absurd (omega arith)
+
+-- THE FIELDS that are left
+not-end : (s : List ℕ) (at : ℕ) → at < length s → fieldAt s at ≡ End → ⊥
+unfolding fieldAt
+not-end s at h e = go (ltb (length s - at) 3) (ltb (length s - at - 3) (lengthAt s at)) (rw (lt-leb (length s) at h) at e)
+  where
+    go : (a b : Bool) → pick a Cut (pick b Cut (Whole (getD s at 0) (at + 3) (lengthAt s at))) ≡ End → ⊥
+    go true b q = let z : _≡_ {A = ℕ} 0 1 = cc in omega arith
+    go false true q = let z : _≡_ {A = ℕ} 0 1 = cc in omega arith
+    go false false q = let z : _≡_ {A = ℕ} 0 1 = cc in omega arith
+
+before-some : (f : Field) (fs : List Field) → (f ≡ End → ⊥) → before f fs ≡ f ∷ fs
+unfolding before
+before-some End fs n = absurd (n refl)
+before-some Cut fs n = refl
+before-some (Whole tag start k) fs n = refl
+
+fields-more : (s : List ℕ) (at : ℕ) → at < length s → fieldsFrom s at ≡ fieldAt s at ∷ fieldsFrom s (placeAfter s at)
+fields-more s at h = next-first s at ∙ before-some (fieldAt s at) (fieldsFrom s (placeAfter s at)) (not-end s at h)
+
+before-end : (fs : List Field) → before End fs ≡ []
+unfolding before
+before-end fs = refl
+
+fields-none : (s : List ℕ) (at : ℕ) → length s ≤ at → fieldsFrom s at ≡ []
+fields-none s at h = next-first s at ∙ (rw (← field-end s at h) (before-end _))
+
+-- a turn goes on, and within the log
+pub next-onward : (s : List ℕ) (at : ℕ) (T : Tables) (out : List ℕ) → at < length s → (at < nextAt s at T out) × (nextAt s at T out ≤ length s)
+unfolding placePast
+next-onward s at T out h =
+    chosen (λ (n : ℕ). (at < n) × (n ≤ length s)) (stopsAfter (callAt (length out) s at) (madeAt s at T out .refused)) _ _ (λ e. (h, omega arith)) (λ e.
+    chosen (λ (n : ℕ). (at < n) × (n ≤ length s)) (ltb inputLimit (length s)) _ _ (λ f. (h, omega arith)) (λ f.
+    let w = taken-onward s at (takenAt s at) h refl in (w .on, w .in-log)))
+
+-- WHICH CALL the turn makes
+module _ (s : List ℕ) (at : ℕ) (out : List ℕ) (short : length s ≤ inputLimit) (room : length out ≡ answerRoom) where
+  call-first : at ≡ 0 → callAt (length out) s at ≡ callIn answerRoom true s (fieldAt s at)
+  unfolding callAt
+  call-first z = rw (le-ltb inputLimit (length s) short, eq-eqb at 0 z, room)
+
+  call-later : (at ≡ 0 → ⊥) → callAt (length out) s at ≡ callIn answerRoom false s (fieldAt s at)
+  unfolding callAt
+  call-later z = rw (le-ltb inputLimit (length s) short, ne-eqb at 0 z, room)
+
+  past-is : placePast s at ≡ placeAfter s at
+  unfolding placePast
+  past-is = rw (le-ltb inputLimit (length s) short)
+
+-- no field after the first opens, and the first does nothing else
+abbrev NotOpen : Option Call → Type 0
+NotOpen none = Unit {0}
+NotOpen (some (openWith sig)) = ⊥
+NotOpen (some (insert t)) = Unit {0}
+NotOpen (some (delete s)) = Unit {0}
+NotOpen (some (withKey k room)) = Unit {0}
+NotOpen (some (retrieve r q room)) = Unit {0}
+NotOpen (some (solve s q room)) = Unit {0}
+
+delete-not : (p : List ℕ) → NotOpen (deleteCall p)
+delete-not [] = tt
+delete-not (h ∷ []) = tt
+delete-not (h ∷ l ∷ []) = tt
+delete-not (h ∷ l ∷ m ∷ p) = tt
+
+retrieve-not : (room : ℕ) (p : List ℕ) → NotOpen (retrieveCall room p)
+retrieve-not room [] = tt
+retrieve-not room (r ∷ q) = tt
+
+solve-not : (room : ℕ) (p : List ℕ) → NotOpen (solveCall room p)
+solve-not room [] = tt
+solve-not room (h ∷ []) = tt
+solve-not room (h ∷ l ∷ q) = tt
+
+later-not : (s : List ℕ) (f : Field) → NotOpen (callIn answerRoom false s f)
+unfolding laterCall
+later-not s End = tt
+later-not s Cut = tt
+later-not s (Whole tag start n) =
+    let p = payload s start n in
+    chosen NotOpen (eqb tag 2) _ _ (λ e. tt) (λ e.
+    chosen NotOpen (eqb tag 3) _ _ (λ e. delete-not p) (λ e.
+    chosen NotOpen (eqb tag 4) _ _ (λ e. retrieve-not answerRoom p) (λ e.
+    chosen NotOpen (eqb tag 5) _ _ (λ e. solve-not answerRoom p) (λ e. tt))))
+
+goes-on : (c : Call) (n : ℕ) → NotOpen (some c) → stopsAfter (some c) n ≡ false
+goes-on (openWith sig) n h = absurd h
+goes-on (insert t) n h = refl
+goes-on (delete s) n h = refl
+goes-on (withKey k room) n h = refl
+goes-on (retrieve r q room) n h = refl
+goes-on (solve s q room) n h = refl
+
+abbrev OnlyOpen : Option Call → Type 0
+OnlyOpen none = Unit {0}
+OnlyOpen (some c) = (sig : List ℕ) × (c ≡ openWith sig)
+
+first-only : (s : List ℕ) (f : Field) → OnlyOpen (callIn answerRoom true s f)
+unfolding firstCall
+first-only s End = tt
+first-only s Cut = tt
+first-only s (Whole tag start n) = chosen OnlyOpen (eqb tag 1) _ _ (λ e. (payload s start n, refl)) (λ e. tt)
+
+-- A TURN WITHOUT A CALL is the last, and shows LOG
+module _ (s : List ℕ) (at : ℕ) (T : Tables) (out line₀ : List ℕ) (S : Tables) (out′ line : List ℕ) (n next : ℕ) (rest : List ℕ)
+    (e : length line₀ ≡ lineRoom) (t : Turned s at T out line₀ S out′ line n next) (r : Shown s next S out′ rest) where
+  log-shown : callAt (length out) s at ≡ none → take n line ++ rest ≡ textOf log ++ []
+  log-shown c =
+      let l : lineAt s at T out ≡ textOf log = rw c in
+      let a : take n line ≡ textOf log = line-shown line₀ line (textOf log) n e (rw l at (t .text)) log-fits in
+      let b : next ≡ length s = t .place ∙ rw c refl in
+      let d : rest ≡ [] = shown-end s next S out′ rest r (omega arith) in
+      rw (a, d) refl
+
+  -- a turn with a call shows its line
+  call-shown : (c : Call) (text : List ℕ) → callAt (length out) s at ≡ some c → lineOf (some c) (told out (carried T c)) ≡ text → length text ≤ lineRoom → take n line ≡ text
+  call-shown c text k m h =
+      let l : lineAt s at T out ≡ text = rw k m in
+      line-shown line₀ line text n e (rw l at (t .text)) h
+
+  tables-after : (c : Call) → callAt (length out) s at ≡ some c → S ≡ carried T c .after
+  tables-after c k = t .tables ∙ rw k refl
+
+  room-after : length out′ ≡ length out
+  room-after = ap length (t .buffer) ∙ length-sets out 0 (written (resultOf T (callAt (length out) s at) .answer))
+
+  next-after : (c : Call) → callAt (length out) s at ≡ some c → stopsAfter (some c) (refusalIn (carried T c .answer)) ≡ false → next ≡ placePast s at
+  next-after c k h = t .place ∙ rw (k, h) refl
+
+  next-stops : (c : Call) → callAt (length out) s at ≡ some c → stopsAfter (some c) (refusalIn (carried T c .answer)) ≡ true → next ≡ length s
+  next-stops c k h = t .place ∙ rw (k, h) refl
+
+-- THE FIELDS AFTER THE SIGNATURE
+later-prints : (s : List ℕ) → length s ≤ inputLimit → (at : ℕ) (T : Tables) (out text : List ℕ) (st : Store) → Shown s at T out text → (at ≡ 0 → ⊥) → Stand T st → length out ≡ answerRoom
+    → text ≡ textOfAll (laterLines s st (fieldsFrom s at))
+unfolding laterLines textOfAll
+later-prints s short at T out text st (ended a U o h) z d room = rw (fields-none s at h) refl
+later-prints s short at T out text st (turning a U o line₀ S out′ line n next rest h e t r) z d room =
+    rw (fields-more s at h) (go (λ u y x v. later-prints s short next S out′ rest u r y x v) (callIn answerRoom false s (fieldAt s at)) refl (field-lent answerRoom false s (fieldAt s at)) (later-not s (fieldAt s at)))
+  where
+    go : ((u : Store) → (next ≡ 0 → ⊥) → Stand S u → length out′ ≡ answerRoom → rest ≡ textOfAll (laterLines s u (fieldsFrom s next)))
+        → (c : Option Call) → callIn answerRoom false s (fieldAt s at) ≡ c → Lent answerRoom c → NotOpen c
+        → take n line ++ rest ≡ textOfAll (lineThen st c (laterLines s (moved st c) (fieldsFrom s (placeAfter s at))))
+    go again none q l o = log-shown s at T out line₀ S out′ line n next rest e t r (call-later s at out short room z ∙ q)
+    go again (some c) q l o =
+        let k : callAt (length out) s at ≡ some c = call-later s at out short room z ∙ q in
+        let b : take n line ≡ answerText c (answered st c) =
+        call-shown s at T out line₀ S out′ line n next rest e t r c (answerText c (answered st c)) k (line-answer T st c out d (omega (arith, l, room))) (answer-fits st c l) in
+        let p : next ≡ placeAfter s at = next-after s at T out line₀ S out′ line n next rest e t r c k (goes-on c (refusalIn (carried T c .answer)) o) ∙ past-is s at out short room in
+        let w = taken-onward s at (takenAt s at) h refl in
+        let i = again (after st c) (λ y. omega (arith, w .on))
+        (rw (tables-after s at T out line₀ S out′ line n next rest e t r c k) (call-means T st c d .stand))
+        (room-after s at T out line₀ S out′ line n next rest e t r ∙ room) in
+        rw (b, i, p) refl
+
+-- THE SIGNATURE
+module _ (T : Tables) (sig : List ℕ) (a : ample T ≡ true) where
+  opens : Called T [] (openWith sig) (told [] (opening T sig))
+  opens = record { room = refl; is = refl }
+
+  opens-number : refusalIn (opening T sig .answer) ≡ sigRefusal sig
+  opens-number = open-number T sig [] (told [] (opening T sig)) a opens
+
+  opens-stand : sigRefusal sig ≡ 0 → Stand (opening T sig .after) (empty sig)
+  opens-stand z = open-run T sig [] (told [] (opening T sig)) opens (opens-number ∙ z)
+
+signature-line : (sig : List ℕ) → pick (eqb (sigRefusal sig) 0) (plainLine (wordOf (openWith sig))) (refusedLine (wordOf (openWith sig)) (sigRefusal sig)) ≡ answerText (openWith sig) (answered unopened (openWith sig))
+unfolding answered
+signature-line sig = go (eqb (sigRefusal sig) 0) refl
+  where
+    go : (b : Bool) → eqb (sigRefusal sig) 0 ≡ b → pick b (plainLine (wordOf (openWith sig))) (refusedLine (wordOf (openWith sig)) (sigRefusal sig)) ≡ answerText (openWith sig) (pick b (done 0 0 []) (refused 2))
+    go true e = refl
+    go false e = ap (refusedLine (wordOf (openWith sig))) (signature-two sig (eqb-false (sigRefusal sig) 0 e))
+
+first-prints : (s : List ℕ) → length s ≤ inputLimit → (at : ℕ) (T : Tables) (out text : List ℕ) → Shown s at T out text → at ≡ 0 → ample T ≡ true → length out ≡ answerRoom
+    → text ≡ textOfAll (firstLines s (fieldsFrom s at))
+unfolding firstLines textOfAll answered after
+first-prints s short at T out text (ended a U o h) z d room = rw (fields-none s at h) refl
+first-prints s short at T out text (turning a U o line₀ S out′ line n next rest h e t r) z d room =
+    rw (fields-more s at h) (go (callIn answerRoom true s (fieldAt s at)) refl (first-only s (fieldAt s at)))
+  where
+    opened : (sig : List ℕ) → callAt (length out) s at ≡ some (openWith sig) → (b : Bool) → eqb (sigRefusal sig) 0 ≡ b
+        → rest ≡ textOfAll (unless (pick b (done 0 0 []) (refused 2)) [] (laterLines s (unless (pick b (done 0 0 []) (refused 2)) unopened (empty sig)) (fieldsFrom s (placeAfter s at))))
+    opened sig k true f =
+        let y : sigRefusal sig ≡ 0 = eqb-true (sigRefusal sig) 0 f in
+        let m : eqb (refusalIn (opening T sig .answer)) 0 ≡ true = rw (opens-number T sig d) f in
+        let p : next ≡ placeAfter s at = next-after s at T out line₀ S out′ line n next rest e t r (openWith sig) k (rw m refl) ∙ past-is s at out short room in
+        let w = taken-onward s at (takenAt s at) h refl in
+        let i = later-prints s short next S out′ rest (empty sig) r (λ q. omega (arith, w .on)) (rw (tables-after s at T out line₀ S out′ line n next rest e t r (openWith sig) k) (opens-stand T sig d y)) (room-after s at T out line₀ S out′ line n next rest e t r ∙ room) in
+        rw (i, p) refl
+    opened sig k false f =
+        let m : eqb (refusalIn (opening T sig .answer)) 0 ≡ false = rw (opens-number T sig d) f in
+        let p : next ≡ length s = next-stops s at T out line₀ S out′ line n next rest e t r (openWith sig) k (rw m refl) in
+        shown-end s next S out′ rest r (omega arith)
+
+    go : (c : Option Call) → callIn answerRoom true s (fieldAt s at) ≡ c → OnlyOpen c
+        → take n line ++ rest ≡ textOfAll (lineThen unopened c (unlessRefused unopened c (laterLines s (moved unopened c) (fieldsFrom s (placeAfter s at)))))
+    go none q o = log-shown s at T out line₀ S out′ line n next rest e t r (call-first s at out short room z ∙ q)
+    go (some c) q o =
+        let sig = o .0 in
+        let k : callAt (length out) s at ≡ some (openWith sig) = call-first s at out short room z ∙ (q ∙ ap (λ x. some x) (o .1)) in
+        let m : lineOf (some (openWith sig)) (told out (carried T (openWith sig))) ≡ answerText (openWith sig) (answered unopened (openWith sig)) = rw (opens-number T sig d) (signature-line sig) in
+        let b : take n line ≡ answerText (openWith sig) (answered unopened (openWith sig)) =
+        call-shown s at T out line₀ S out′ line n next rest e t r (openWith sig) _ k m (answer-fits unopened (openWith sig) (omega arith)) in
+        rw (o .1, b, opened sig k (eqb (sigRefusal sig) 0) refl) refl
+
+no-call : (s : List ℕ) (at room : ℕ) → inputLimit < length s → callAt room s at ≡ none
+unfolding callAt
+no-call s at room h = rw (lt-ltb inputLimit (length s) h)
+
+only-log : textOfAll (log ∷ []) ≡ textOf log ++ []
+unfolding textOfAll
+only-log = refl
+
+long-prints : (s : List ℕ) (at : ℕ) (T : Tables) (out text : List ℕ) → inputLimit < length s → Shown s at T out text → at ≡ 0 → text ≡ textOf log ++ []
+long-prints s at T out text h (ended x U o l) z = absurd (omega arith)
+long-prints s at T out text h (turning x U o line₀ S out′ line n next rest l e t r) z = log-shown s at T out line₀ S out′ line n next rest e t r (no-call s at (length out) h)
+
+-- THE PROGRAM PRINTS `printed` of its input, from any memory that is long enough
+pub prints : (s : List ℕ) (T : Tables) (out text : List ℕ) → ample T ≡ true → length out ≡ answerRoom → Shown s 0 T out text → text ≡ printed s
+unfolding printed linesOf
+prints s T out text a room w = go (decLt inputLimit (length s))
+  where
+    go : Dec (inputLimit < length s) → text ≡ textOfAll (pick (ltb inputLimit (length s)) (log ∷ []) (firstLines s (fieldsOf s)))
+    go (yes h) = rw (lt-ltb inputLimit (length s) h) (long-prints s 0 T out text h w refl ∙ sym (only-log))
+    go (no h) = rw (le-ltb inputLimit (length s) (omega arith)) (first-prints s (omega arith) 0 T out text w refl a room)
