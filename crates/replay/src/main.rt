@@ -1,7 +1,5 @@
-// Replays an operation log from standard input (SCOPE.md, 'The log program').
-mod order;
-mod say;
-
+// Replays an operation log from standard input (SCOPE.md, 'The log program'): reads it, and turn after turn writes a
+// line. What each turn does, and that the lines are those of the definition, stands in crate turns.
 use laws::ANSWER;
 use laws::BYTES;
 use laws::INPUT;
@@ -12,64 +10,7 @@ use laws::SETS;
 use laws::USED;
 use libc::STDIN_FILENO;
 use libc::STDOUT_FILENO;
-use order::task_at;
-use orders::call;
-use say::say;
-use say::stops;
-ghost use Prim.Native.Nat.{_≤_, _<_};
-ghost use lib.ListN.{length};
-
-// The length of a field's line, and where the next field starts: at the input's end where the log stops.
-struct Turn {
-    length: usize,
-    next: usize,
-}
-
-// One step of the log: the field at a place, its call, its line.
-fn step(
-    input: &[u8],
-    at: usize,
-    bytes: &mut [u8; BYTES],
-    used: &mut [u64; USED],
-    label: &mut [u32; LABEL],
-    link: &mut [u16; LINK],
-    s0: &mut [u64; SETS],
-    s1: &mut [u64; SETS],
-    s2: &mut [u64; SETS],
-    s3: &mut [u64; SETS],
-    out: &mut [u8; ANSWER],
-    line: &mut [u8; LINE],
-) -> Turn
-    requires { ⌜ at < length (now input) ⌝ }
-    ensures { λ r. ⌜ (at < r .next) × (r .next ≤ length (now (input .entry))) ⌝ }
-{
-    let task = task_at(input, at);
-    let order = task.order;
-    let start = task.start;
-    let end = task.end;
-    let reply = call(
-        order,
-        &input[start..end],
-        bytes,
-        used,
-        label,
-        link,
-        s0,
-        s1,
-        s2,
-        s3,
-        out,
-    );
-    let n = say(order, reply, out, line);
-    Turn {
-        length: n,
-        next: if stops(order, reply) {
-            input.len()
-        } else {
-            end
-        },
-    }
-}
+use turns::turn;
 
 // Writes the first n bytes of a line to standard output.
 fn show(line: &[u8; LINE], n: usize) {
@@ -79,7 +20,8 @@ fn show(line: &[u8; LINE], n: usize) {
     }
 }
 
-// Takes field after field, the first from the start of the input.
+// Takes field after field, the first from the start of the input. One byte more than the limit tells that an input is
+// too long.
 fn main() {
     let mut input = [0u8; INPUT + 1];
     let mut bytes = [0u8; BYTES];
@@ -95,7 +37,7 @@ fn main() {
     let n = io::read_full(STDIN_FILENO, &mut input);
     let mut at: usize = 0;
     while at < n {
-        let done = step(
+        let done = turn(
             &input[..n],
             at,
             &mut bytes,

@@ -166,6 +166,9 @@ next-onward s at T out h =
     chosen (λ (n : ℕ). (at < n) × (n ≤ length s)) (ltb inputLimit (length s)) _ _ (λ f. (h, omega arith)) (λ f.
     let w = taken-onward s at (takenAt s at) h refl in (w .on, w .in-log)))
 
+pub turned-onward : (s : List ℕ) (at : ℕ) (T : Tables) (out line₀ : List ℕ) (S : Tables) (out′ line : List ℕ) (n next : ℕ) → Turned s at T out line₀ S out′ line n next → at < length s → (at < next) × (next ≤ length s)
+turned-onward s at T out line₀ S out′ line n next t h = let w = next-onward s at T out h in (omega (arith, t .place, w .0), omega (arith, t .place, w .1))
+
 -- WHICH CALL the turn makes
 module _ (s : List ℕ) (at : ℕ) (out : List ℕ) (short : length s ≤ inputLimit) (room : length out ≡ answerRoom) where
   call-first : at ≡ 0 → callAt (length out) s at ≡ callIn answerRoom true s (fieldAt s at)

@@ -1,43 +1,104 @@
-use Prim.Native.Nat.{_≤_, _-_}
+use Prim.Native.Nat.{_+_, _-_, _≤_, _<_}
 use native.Mathlib.Omega.{arith}
+use mathlib.Core.Path.{_≡_, refl, sym, _∙_}
+use lib.ListN.{length}
+use lib.Seq.{length-take-le}
+use borrow.Author.Needs.{needs}
+use Rattle.laws.specs.Sizes.{bytesLength, usedLength, labelLength, linkLength, setLength, answerRoom, lineRoom}
+use Rattle.turns.specs.Prints.{turned-onward}
 use Rattle.replay.proofs.main.Statement.{statement}
 use Rattle.replay.proofs.main.Tie as tie
+use Rattle.replay.proofs.main.Reads as reads
+use Rattle.replay.proofs.main.Lts as lts
+use Rattle.io.proofs.read_full.Reads as read-full-reads
+use Rattle.replay.proofs.show.Reads as show-reads
+use Rattle.turns.proofs.turn.Reads as turn-reads
 
 abbrev Inv-loop : tie.InvT-loop
 Inv-loop input bytes₀ used₀ label₀ link₀ s0₀ s1₀ s2₀ s3₀ out₀ line₀ n at₀ bytes used label link s0 s1 s2 s3 out line at =
-    n ≤ 65536
+    (n ≤ 65536) × (length bytes ≡ bytesLength) × (length used ≡ usedLength) × (length label ≡ labelLength) × (length link ≡ linkLength) × (length s0 ≡ setLength) × (length s1 ≡ setLength) × (length s2 ≡ setLength) × (length s3 ≡ setLength) × (length out ≡ answerRoom) × (length line ≡ lineRoom)
 
 abbrev μ-loop : tie.MeasureT-loop
 μ-loop input bytes₀ used₀ label₀ link₀ s0₀ s1₀ s2₀ s3₀ out₀ line₀ n at₀ bytes used label link s0 s1 s2 s3 out line at =
     n - at
 
+-- src/main.rt:37:41
 slice-aggregate-read-full : tie.Need-slice-aggregate-read-full Inv-loop μ-loop
 slice-aggregate-read-full c = omega arith
 
+-- src/main.rt:37:9
 read-full-requires : tie.Need-read-full-requires Inv-loop μ-loop
-read-full-requires c κs = omega arith
+read-full-requires c κs = search needs
 
+-- src/main.rt:39:5
 loop-holds : tie.Need-loop-holds Inv-loop μ-loop
-loop-holds c = omega arith
+loop-holds c = (omega arith, refl, refl, refl, refl, refl, refl, refl, refl, refl, refl)
 
+-- src/main.rt:41:13
 array-share-prefix-input : tie.Need-array-share-prefix-input Inv-loop μ-loop
-array-share-prefix-input c = omega arith
+array-share-prefix-input c = omega (arith, (c .before) .loop .inv .0)
 
-slice-aggregate-step : tie.Need-slice-aggregate-step Inv-loop μ-loop
-slice-aggregate-step c = omega arith
+-- src/main.rt:41:13
+slice-aggregate-turn : tie.Need-slice-aggregate-turn Inv-loop μ-loop
+slice-aggregate-turn c = omega arith
 
-step-requires : tie.Need-step-requires Inv-loop μ-loop
-step-requires c κs = omega arith
+-- src/main.rt:43:13
+slice-aggregate-turn-2 : tie.Need-slice-aggregate-turn-2 Inv-loop μ-loop
+slice-aggregate-turn-2 c = sym ((c .before .before .before) .loop .inv .1)
 
+-- src/main.rt:44:13
+slice-aggregate-turn-3 : tie.Need-slice-aggregate-turn-3 Inv-loop μ-loop
+slice-aggregate-turn-3 c = sym ((c .before .before .before .before) .loop .inv .2)
+
+-- src/main.rt:45:13
+slice-aggregate-turn-4 : tie.Need-slice-aggregate-turn-4 Inv-loop μ-loop
+slice-aggregate-turn-4 c = sym ((c .before .before .before .before .before) .loop .inv .3)
+
+-- src/main.rt:46:13
+slice-aggregate-turn-5 : tie.Need-slice-aggregate-turn-5 Inv-loop μ-loop
+slice-aggregate-turn-5 c = sym ((c .before .before .before .before .before .before) .loop .inv .4)
+
+-- src/main.rt:47:13
+slice-aggregate-turn-6 : tie.Need-slice-aggregate-turn-6 Inv-loop μ-loop
+slice-aggregate-turn-6 c = sym ((c .before .before .before .before .before .before .before) .loop .inv .5)
+
+-- src/main.rt:48:13
+slice-aggregate-turn-7 : tie.Need-slice-aggregate-turn-7 Inv-loop μ-loop
+slice-aggregate-turn-7 c = sym ((c .before .before .before .before .before .before .before .before) .loop .inv .6)
+
+-- src/main.rt:49:13
+slice-aggregate-turn-8 : tie.Need-slice-aggregate-turn-8 Inv-loop μ-loop
+slice-aggregate-turn-8 c = sym ((c .before .before .before .before .before .before .before .before .before) .loop .inv .7)
+
+-- src/main.rt:50:13
+slice-aggregate-turn-9 : tie.Need-slice-aggregate-turn-9 Inv-loop μ-loop
+slice-aggregate-turn-9 c = sym ((c .before .before .before .before .before .before .before .before .before .before) .loop .inv .8)
+
+-- src/main.rt:51:13
+slice-aggregate-turn-10 : tie.Need-slice-aggregate-turn-10 Inv-loop μ-loop
+slice-aggregate-turn-10 c = sym ((c .before .before .before .before .before .before .before .before .before .before .before) .loop .inv .9)
+
+-- src/main.rt:52:13
+slice-aggregate-turn-11 : tie.Need-slice-aggregate-turn-11 Inv-loop μ-loop
+slice-aggregate-turn-11 c = sym ((c .before .before .before .before .before .before .before .before .before .before .before .before) .loop .inv .10)
+
+-- src/main.rt:40:13
+turn-requires : tie.Need-turn-requires Inv-loop μ-loop
+turn-requires c κs = search needs
+
+-- src/main.rt:54:9
 show-requires : tie.Need-show-requires Inv-loop μ-loop
-show-requires c κs = omega arith
+show-requires c κs = search needs
 
+-- src/main.rt:39:5
 loop-less : tie.Need-loop-less Inv-loop μ-loop
-loop-less c = omega arith
+loop-less c = let l = length-take-le ((c .before .before .before .before .before .before .before .before .before .before .before .before .before .before .before .before .before .before .before .before .before .before .before .before .before .before .before .read-full) .result) ((c .before .before .before .before .before .before .before .before .before .before .before .before .before .before .before .before .before .before .before .before .before .before .before .before .before .before .before .read-full) .last .1 .0) (omega (arith, (c .before .before .before .before .before .before .before .before .before .before .before .before .before .before .before .before .before .before .before .before .before .before .before .before .before) .loop .inv .0, (c .before .before .before .before .before .before .before .before .before .before .before .before .before .before .before .before .before .before .before .before .before .before .before .before .before .before .before .read-full) .kept .1 .0)) in let w = turned-onward _ _ _ _ _ _ _ _ _ _ ((c .before .before .before .before .before .before .before .before .before .before .before .before .turn) .ensures) (omega (arith, (c .before .before .before .before .before .before .before .before .before .before .before .before .before .before .before .before .before .before .before .before .before .before .before .before .loop-test) .taken, l)) in omega (arith, (c .before .before .before .before .before .before .before .before .before .before .before .before .before .before .before .before .before .before .before .before .before .before .before .before .loop-test) .taken, w .0)
 
+-- src/main.rt:39:5
 loop-again : tie.Need-loop-again Inv-loop μ-loop
-loop-again c = omega arith
+loop-again c = let l = (c .before .before .before .before .before .before .before .before .before .before .before .before .before .before .before .before .before .before .before .before .before .before .before .before .before) .loop in let k = (c .before .before .before .before .before .before .before .before .before .before .before .before .turn) .kept in (l .inv .0, _∙_ {b = length (l .bytes)} (k .1 .1 .0) (l .inv .1), _∙_ {b = length (l .used)} (k .1 .1 .1 .0) (l .inv .2), _∙_ {b = length (l .label)} (k .1 .1 .1 .1 .0) (l .inv .3), _∙_ {b = length (l .link)} (k .1 .1 .1 .1 .1 .0) (l .inv .4), _∙_ {b = length (l .s0)} (k .1 .1 .1 .1 .1 .1 .0) (l .inv .5), _∙_ {b = length (l .s1)} (k .1 .1 .1 .1 .1 .1 .1 .0) (l .inv .6), _∙_ {b = length (l .s2)} (k .1 .1 .1 .1 .1 .1 .1 .1 .0) (l .inv .7), _∙_ {b = length (l .s3)} (k .1 .1 .1 .1 .1 .1 .1 .1 .1 .0) (l .inv .8), _∙_ {b = length (l .out)} (k .1 .1 .1 .1 .1 .1 .1 .1 .1 .1 .0) (l .inv .9), _∙_ {b = length (l .line)} (k .1 .1 .1 .1 .1 .1 .1 .1 .1 .1 .1 .0) (l .inv .10))
 
+-- src/main.rt:25:1
 returns : tie.Need-returns Inv-loop μ-loop
 returns c = tt
 
@@ -51,8 +112,18 @@ main-spec =
     read-full-requires
     loop-holds
     array-share-prefix-input
-    slice-aggregate-step
-    step-requires
+    slice-aggregate-turn
+    slice-aggregate-turn-2
+    slice-aggregate-turn-3
+    slice-aggregate-turn-4
+    slice-aggregate-turn-5
+    slice-aggregate-turn-6
+    slice-aggregate-turn-7
+    slice-aggregate-turn-8
+    slice-aggregate-turn-9
+    slice-aggregate-turn-10
+    slice-aggregate-turn-11
+    turn-requires
     show-requires
     loop-less
     loop-again
