@@ -254,7 +254,7 @@ octets-bytes (sy f ∷ l) e h = let a : code (sy f) ≡ sy f = cc in let b : map
     go (yes v) a o = let c : va (f - variableBase) ≡ sy f = rw (le-ltb f variableBase v) at a in let z : _≡_ {A = ℕ} 0 1 = cc in absurd (omega arith)
     go (no v) a o = (omega arith, (omega arith, o))
 
-length-bytes : (l : List Item) → length (bytes l) ≡ 2 * length l
+pub length-bytes : (l : List Item) → length (bytes l) ≡ 2 * length l
 unfolding bytes
 length-bytes [] = refl
 length-bytes (i ∷ l) = omega (arith, length-bytes l)

@@ -2,3 +2,4 @@ pub mod Arguments
 pub mod Pair
 pub mod Replies
 pub mod One
+pub mod Exactly

@@ -7,6 +7,8 @@ pub mod Declared
 pub mod Formulas
 pub mod FormulasTable
 pub mod IsKey
+pub mod Longest
 pub mod Readable
 pub mod Sound
 pub mod Store
+pub mod VariableQuestion

@@ -14,31 +14,39 @@
 --
 -- That every call ends and does nothing undefined, on all bytes, numbers and lengths, is what it means that the
 -- functions are proved at all: none of the six asks anything of its caller, and the prover takes a function only with
--- its ending, its indices and its arithmetic shown; so every call has an outcome, and only one
--- (calls/specs/Outcome.antt, outcome-one). The checks of a signature and of a term and the argument of a term, with
--- refusal 10, are calls without tables and have their contracts in terms (sigRefusal, refusal, argRefusal); 16 is the
--- log program's (replay).
-use Prim.Native.Nat.{ℕ, _*_, _≤_, _<_}
-use mathlib.Core.Path.{_≡_, sym, ap, _∙_}
+-- its ending, its indices and its arithmetic shown. That every call has an outcome by its contract, and only one, is
+-- `every-call` here. The checks of a signature and of a term and the argument of a term, with refusal 10, are calls
+-- without tables and have their contracts in terms (sigRefusal, refusal, argRefusal); the question about one pair is
+-- exact both ways by export/specs/Exactly.antt; 16 is the log program's (replay). How a caller reads a store back, and
+-- how much room every answer has enough of, is in ReadStore.antt beside this file.
+use Prim.Native.Nat.{ℕ, _≤_, _<_}
+use mathlib.Core.Path.{_≡_, refl, sym, ap, _∙_}
 use mathlib.Core.Logic.{_≢_, _↔_, Iff·trans}
 use mathlib.Core.Bool.{true, false}
-use mathlib.Core.Option.{some}
+use mathlib.Core.Option.{some, none}
 use mathlib.Core.List.{List, _++_}
 use native.Mathlib.Omega.{arith}
 use borrow.Author.Tests.{eq-eqb, ne-eqb}
-use lib.ListN.{length, drop}
+use lib.ListN.{length, take, drop}
 use lib.Seq.{sets}
 use Rattle.laws.specs.Members.{In, NoDup}
 use Rattle.terms.specs.declared.Refusal.{Refusal}
 use Rattle.terms.specs.Refusals.{numberOf, rank}
 use Rattle.terms.specs.Numbers.{number-some}
 use Rattle.definitions.specs.Ranks.{First}
-use Rattle.terms.specs.Terms.{sigRefusal, refusal}
+use Rattle.terms.specs.Terms.{arity, sigRefusal, refusal}
+use Rattle.keys.specs.Keys.{HasKey}
 use Rattle.theory.specs.Relations.{Unifiable}
 use Rattle.theory.specs.Flat.{Item}
+use Rattle.theory.specs.Subst.{vars, app, Sub}
+use Rattle.theory.specs.Unify.{Has, Unbound}
+use Rattle.theory.specs.Match.{once}
+use Rattle.theory.specs.Canon.{most-mgu}
 use Rattle.theory.specs.Items.{items, shift}
+use Rattle.laws.specs.Sizes.{slotCount}
 use Rattle.layout.specs.Tables.{Tables, ample}
 use Rattle.definitions.specs.Trees.{treeOf}
+use Rattle.definitions.specs.KeyBytes.{keyOf}
 use Rattle.definitions.specs.Relations.{Stands}
 use Rattle.definitions.specs.Records.{Unifier, IsRecord, Short}
 use Rattle.definitions.specs.ReadBack.{Reads, readFields}
@@ -48,16 +56,17 @@ use Rattle.library.specs.Formulas.{formula, trees}
 use Rattle.library.specs.Sound.{Sound}
 use Rattle.library.specs.Applies.{Applies, AppliesNumber}
 use Rattle.library.specs.AppliesFirst.{refused-is, refused-first, refused-exactly}
-use Rattle.library.specs.Readable.{Ascending, ascending-nodup, answers-are, answers-ascend, candidates-are, candidates-ascend, solve-none, solve-long, solve-writes, solve-solved}
-use Rattle.library.specs.Store.{Store, Call, roomOf, answered, empty, after, openWith, retrieve, solve, answers, candidates as candidatesIn}
-use Rattle.calls.specs.Outcome.{Outcome, Result, told}
+use Rattle.library.specs.Readable.{Ascending, ascending-nodup, use-held, free-smallest, free-unused, keyed-are, keyed-ascend, answers-are, answers-ascend, candidates-are, candidates-ascend, solve-none, solve-long, solve-writes, solve-solved}
+use Rattle.library.specs.Store.{Store, Call, roomOf, answered, empty, after, firstFree, keyed, openWith, insert, delete, withKey, retrieve, solve, answers, candidates as candidatesIn}
+use Rattle.calls.specs.declared.Reply.{Reply}
+use Rattle.calls.specs.Outcome.{Outcome, outcome, told}
 use Rattle.retrieve.specs.Retrieving.{candidatesOf}
 use Rattle.meaning.specs.Stand.{Stand, Means, stand-ample, stand-sound}
 use Rattle.meaning.specs.Confirmed.{candidates-are as walked-are}
 use Rattle.meaning.specs.CallsMean.{call-means}
-use Rattle.meaning.specs.Carried.{quiet, short-exactly}
+use Rattle.meaning.specs.Carried.{Asks, asks-quiet, quiet, short-exactly, outcome-replied}
 use Rattle.meaning.specs.Opening.{open-number, open-run}
-use Rattle.meaning.specs.Told.{front-bytes, retrieve-found, solve-found}
+use Rattle.meaning.specs.Told.{front-bytes, front-read, retrieve-found, solve-found, key-found, insert-found, delete-found, unused-none, put-same, put-other, put-signature, field-value, field-none, absorbs-all}
 use Rattle.meaning.specs.Runs.{carried, Called, Tells, toldNumber, Run, opened, called}
 
 -- the numbers and the bytes of an answer
@@ -81,13 +90,30 @@ said T st c out₀ o m d = record {
 stands-after : (S S′ : Tables) (st : Store) → S ≡ S′ → Stand S′ st → Stand S st
 stands-after S S′ st e h = rw e h
 
-run-stands : (T : Tables) (st : Store) → Run T st → Stand T st
+pub run-stands : (T : Tables) (st : Store) → Run T st → Stand T st
 run-stands T st (opened X sig out₀ o c z) = open-run X sig out₀ o c z
 run-stands T st (called X st₀ c out₀ o k d) =
     stands-after (o .after) (carried X c .after) (after st₀ c) (ap (λ (x : Outcome). x .after) (d .is)) (call-means X st₀ c (run-stands X st₀ k) .stand)
 
-run-sound : (T : Tables) (st : Store) → Run T st → Sound st
+pub run-sound : (T : Tables) (st : Store) → Run T st → Sound st
 run-sound T st k = stand-sound T st (run-stands T st k)
+
+-- EVERY CALL HAS AN OUTCOME, and only one: on all tables, whatever they hold, and for every buffer of the length that
+-- the call says. So nothing below is said of no outcome.
+pub every-call : (T : Tables) (c : Call) (out₀ : List ℕ) → length out₀ ≡ roomOf c
+    → (o : Outcome) × Called T out₀ c o × ((o′ : Outcome) → Called T out₀ c o′ → o′ ≡ o)
+every-call T c out₀ e = (told out₀ (carried T c), record { room = e; is = refl }, λ o′ d. d .is)
+
+-- it is one that a function can answer: the reply of a function with the tables and the buffer that it leaves
+-- (`outcome`, calls/specs/Outcome.antt), so that its number is 0 or that of a name
+pub every-reply : (T : Tables) (c : Call) (out₀ : List ℕ) (o : Outcome) → Called T out₀ c o
+    → (r : Reply) × (outcome r (o .after) (o .out) ≡ o)
+every-reply T c out₀ o d = outcome-replied T c out₀ o d
+
+-- and every run goes on with any call: what comes out leads to one store, `after`
+pub every-run : (T : Tables) (st : Store) (c : Call) (out₀ : List ℕ) → Run T st → length out₀ ≡ roomOf c
+    → (o : Outcome) × Called T out₀ c o × Run (o .after) (after st c)
+every-run T st c out₀ k e = let w = every-call T c out₀ e in (w .0, w .1, called T st c out₀ (w .0) k (w .1))
 
 -- DEMAND 1. 'Each refusal is given exactly under its stated condition, with its number, and changes no byte of tables
 -- or answer buffer': what comes out is the store's answer to the call, and the buffer has the answer's bytes in front
@@ -100,6 +126,10 @@ demand-1 T st c out₀ o k d = said T st c out₀ o (call-means T st c (run-stan
 pub demand-1-quiet : (T : Tables) (c : Call) (out₀ : List ℕ) (o : Outcome) → Called T out₀ c o → o .refused ≢ 0
     → (o .after ≡ T) × (o .out ≡ out₀)
 demand-1-quiet T c out₀ o d n = quiet T c out₀ o d n
+
+-- the key question, a retrieval and solve change no table, refused or not, on all tables
+pub demand-1-asks : (T : Tables) (c : Call) (out₀ : List ℕ) (o : Outcome) → Called T out₀ c o → Asks c → o .after ≡ T
+demand-1-asks T c out₀ o d h = asks-quiet T c out₀ o d h
 
 -- refusal 1, on all tables: exactly where one is short (docs/TABLES.md has the lengths), whatever they hold; the
 -- tables of a run are never short, so that demand-1 has all its numbers
@@ -143,6 +173,88 @@ pub demand-1-exactly : (T : Tables) (st : Store) (c : Call) (out₀ : List ℕ) 
     (Applies st c why × ((w : Refusal) → Applies st c w → rank (numberOf why) ≤ rank (numberOf w)))
 demand-1-exactly T st c out₀ o why k d =
     Iff·trans (demand-1-number T st c out₀ o (numberOf why) k d (number-some why)) (refused-exactly st (run-sound T st k) c why)
+
+-- INSERT AND DELETE, where not refused. st is the store before and next the one afterwards, with which the run goes on
+pub record Insertion (st next : Store) (t : List ℕ) (o : Outcome) : Type 0 where
+  -- the slot told is the smallest one not in use
+  pub below : o .first < slotCount
+  pub free : st .held (o .first) ≡ none
+  pub smallest : (s : ℕ) → s < o .first → (u : List ℕ) × (st .held s ≡ some u)
+  -- afterwards it holds the term's bytes, and all else is as before
+  pub holds : next .held (o .first) ≡ some t
+  pub others : (s : ℕ) → s ≢ o .first → next .held s ≡ st .held s
+  pub signature : next .signature ≡ st .signature
+  pub run : Run (o .after) next
+
+pub demand-1-insert : (T : Tables) (st : Store) (t out₀ : List ℕ) (o : Outcome) → Run T st → Called T out₀ (insert t) o
+    → o .refused ≡ 0 → Insertion st (after st (insert t)) t o
+demand-1-insert T st t out₀ o k d z =
+    let m = demand-1 T st (insert t) out₀ o k d in
+    let w = insert-found st t (sym (m .number) ∙ z) in
+    let e : o .first ≡ firstFree st = m .first ∙ ap firstIn (w .is) in
+    record {
+      below = rw e (w .below);
+      free = rw e (unused-none st (firstFree st) (w .below) (free-unused st (w .below)));
+      smallest = λ s l. use-held st (run-sound T st k) s .0 (free-smallest st s (omega (arith, e, l)));
+      holds = rw (e, w .next) (put-same st (firstFree st) (some t));
+      others = λ s n. ap (λ (x : Store). x .held s) (w .next) ∙ put-other st (firstFree st) (some t) s (λ f. n (f ∙ sym e));
+      signature = ap (λ (x : Store). x .signature) (w .next) ∙ put-signature st (firstFree st) (some t);
+      run = called T st (insert t) out₀ o k d;
+    }
+
+pub record Deletion (st next : Store) (s : ℕ) (o : Outcome) : Type 0 where
+  -- the slot told is the one asked, and it was in use
+  pub slot : o .first ≡ s
+  pub used : (t : List ℕ) × (st .held s ≡ some t)
+  -- afterwards it is free, and all else is as before
+  pub free : next .held s ≡ none
+  pub others : (u : ℕ) → u ≢ s → next .held u ≡ st .held u
+  pub signature : next .signature ≡ st .signature
+  pub run : Run (o .after) next
+
+pub demand-1-delete : (T : Tables) (st : Store) (s : ℕ) (out₀ : List ℕ) (o : Outcome) → Run T st
+    → Called T out₀ (delete s) o
+    → o .refused ≡ 0 → Deletion st (after st (delete s)) s o
+demand-1-delete T st s out₀ o k d z =
+    let m = demand-1 T st (delete s) out₀ o k d in
+    let w = delete-found st s (sym (m .number) ∙ z) in
+    record {
+      slot = m .first ∙ ap firstIn (w .is);
+      used = use-held st (run-sound T st k) s .0 (w .used);
+      free = ap (λ (x : Store). x .held s) (w .next) ∙ put-same st s none;
+      others = λ u n. ap (λ (x : Store). x .held u) (w .next) ∙ put-other st s none u n;
+      signature = ap (λ (x : Store). x .signature) (w .next) ∙ put-signature st s none;
+      run = called T st (delete s) out₀ o k d;
+    }
+
+-- THE KEY QUESTION, where not refused: 'the slots in use whose term has that key, ascending'
+pub record KeyQuestion (st : Store) (k out₀ : List ℕ) (o : Outcome) : Type 0 where
+  -- the slots, each once, ascending
+  pub slots : List ℕ
+  pub ascending : Ascending slots
+  pub exactly : (s : ℕ)
+      → In s slots ↔ ((t : List ℕ) × (st .held s ≡ some t) × HasKey (treeOf (st .signature) t) (keyOf k))
+  -- their number, and their listing in the first bytes of the buffer, no byte beyond
+  pub number : o .first ≡ length slots
+  pub bytes : o .out ≡ listed slots ++ drop (length (listed slots)) out₀
+  -- the store afterwards is the store before
+  pub run : Run (o .after) st
+
+pub demand-1-key : (T : Tables) (st : Store) (room : ℕ) (k out₀ : List ℕ) (o : Outcome) → Run T st
+    → Called T out₀ (withKey k room) o
+    → o .refused ≡ 0 → KeyQuestion st k out₀ o
+demand-1-key T st room k out₀ o r d z =
+    let g = run-sound T st r in
+    let m = demand-1 T st (withKey k room) out₀ o r d in
+    let w = key-found st room k (sym (m .number) ∙ z) in
+    record {
+      slots = keyed st k;
+      ascending = keyed-ascend st g k;
+      exactly = keyed-are st g k;
+      number = m .first ∙ ap firstIn (w .is);
+      bytes = m .bytes ∙ ap (λ (a : Answer). sets out₀ 0 (written a)) (w .is) ∙ front-bytes (listed (keyed st k)) out₀ (let l = w .fits in omega (arith, l, d .room));
+      run = rw (demand-1-asks T (withKey k room) out₀ o d tt) r;
+    }
 
 -- DEMAND 2. 'After any run of opening, inserts and deletes, a retrieval lists exactly the slots whose term stands in
 -- the asked relation, each once, ascending. The candidates before confirmation are those of the path formulas of SRI
@@ -205,6 +317,40 @@ pub record Solution (sig t q out₀ : List ℕ) (o : Outcome) : Type 0 where
   -- no value has over 2,048 items
   pub short : Short (is .by)
 
+-- the bytes that were written: the first of the buffer, as many as the second number says
+abbrev pub recordIn : Outcome → List ℕ
+recordIn o = take (o .second) (o .out)
+
+-- THE SUBSTITUTION THAT BYTES STAND FOR, read back as the fields of a record: a variable that a field lists has that
+-- field's value, every other variable itself (`readFields`, definitions/specs/ReadBack.antt; `once`,
+-- theory/specs/Match.antt)
+abbrev pub substitution : List ℕ → ℕ → List Item
+substitution w = once (readFields w)
+
+-- θ is a unifier of the stored term t and the question q, their variables apart: each value is a term, and θ makes both
+-- the same (`app θ l`: each variable of l replaced by its value under θ)
+abbrev pub Unifying : List ℕ → List ℕ → List ℕ → (ℕ → List Item) → Type 0
+Unifying sig t q θ = Sub (arity sig) θ × (app θ (items t) ≡ app θ (shift 32 (items q)))
+
+-- σ is the most general one, in a user's words
+pub record MostGeneral (sig t q : List ℕ) (σ : ℕ → List Item) : Type 0 where
+  pub unifies : Unifying sig t q σ
+  -- applied twice it gives what it gives once
+  pub idempotent : (l : List Item) → app σ (app σ l) ≡ app σ l
+  -- every unifier, applied after σ, gives just what it gives by itself: of each variable, and so of every term
+  pub variables : (θ : ℕ → List Item) → Unifying sig t q θ → (y : ℕ) → app θ (σ y) ≡ θ y
+  pub terms : (θ : ℕ → List Item) → Unifying sig t q θ → (l : List Item) → app θ (app σ l) ≡ app θ l
+
+most-general : (sig t q w : List ℕ) → Reads sig t q (readFields w) → MostGeneral sig t q (substitution w)
+most-general sig t q w h =
+    let m = most-mgu (arity sig) (items t) (shift 32 (items q)) (substitution w) (h .most) in
+    record {
+      unifies = (m .sub, m .unifies);
+      idempotent = absorbs-all (substitution w) (substitution w) (h .most .idempotent);
+      variables = λ θ u. m .general θ (u .0) (u .1);
+      terms = λ θ u. absorbs-all θ (substitution w) (m .general θ (u .0) (u .1));
+    }
+
 -- solve, for a slot that holds t and a question that is a term
 module _ (T : Tables) (st : Store) (s room : ℕ) (t q out₀ : List ℕ) (o : Outcome) (k : Run T st) (e : st .held s ≡ some t)
     (c : refusal (st .signature) q ≡ 0) (d : Called T out₀ (solve s q room) o) where
@@ -225,6 +371,23 @@ module _ (T : Tables) (st : Store) (s room : ℕ) (t q out₀ : List ℕ) (o : O
         fields = m .first ∙ ap firstIn (w .is) ∙ v .count;
         short = v .short;
       }
+
+  -- the same in a user's words, of the bytes that were written
+  record-read : o .refused ≡ 0 → Reads (st .signature) t q (readFields (recordIn o))
+  record-read z =
+      let v = demand-3 z in
+      rw (front-read (v .record-bytes) (drop (length (v .record-bytes)) out₀) (o .out) (o .second) (v .length-told) (v .bytes)) (v .reads)
+
+  pub demand-3-read : o .refused ≡ 0 → MostGeneral (st .signature) t q (substitution (recordIn o))
+  demand-3-read z = most-general (st .signature) t q (recordIn o) (record-read z)
+
+  -- and each field tells its variable's value, all other variables stay
+  pub demand-3-field : o .refused ≡ 0 → (y : ℕ) (v : List Item) → Has y v (readFields (recordIn o))
+      → substitution (recordIn o) y ≡ v
+  demand-3-field z = field-value (readFields (recordIn o)) (record-read z .ascends)
+
+  pub demand-3-other : (y : ℕ) → Unbound y (readFields (recordIn o)) → substitution (recordIn o) y ≡ vars y
+  demand-3-other = field-none (readFields (recordIn o))
 
   -- and it is written unless a value is too long or the buffer too short: 14 exactly where some value has over 2,048
   -- items

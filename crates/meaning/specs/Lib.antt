@@ -10,4 +10,5 @@ pub mod Carried
 pub mod Opening
 pub mod Told
 pub mod Demands
+pub mod ReadStore
 pub mod Rejected

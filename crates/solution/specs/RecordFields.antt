@@ -7,10 +7,11 @@ use native.Mathlib.Omega.{arith}
 use lib.ListN.{length, getD, drop, take, set}
 use Rattle.theory.specs.Subst.{app}
 use Rattle.definitions.specs.Records.{bytes}
+use Rattle.definitions.specs.ReadBack.{length-bytes}
 use Rattle.unify.specs.Run.{term}
 use Rattle.solution.specs.Values.{value, value-bound}
 use Rattle.solution.specs.Filling.{front}
-use Rattle.solution.specs.ValueBytes.{length-bytes, termBytes}
+use Rattle.solution.specs.ValueBytes.{termBytes}
 
 -- a field: the tag, the length in two bytes, the variable's item, the value's items
 unfoldable pub field : ℕ → List ℕ → List ℕ

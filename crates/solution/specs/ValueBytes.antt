@@ -2,7 +2,7 @@
 use mathlib.Core.Path.{_≡_, refl, sym, ap, _∙_}
 use mathlib.Core.Logic.{_⊎_, inl, inr, _≢_}
 use mathlib.Core.List.{List, [], _∷_, _++_, append-nil}
-use Prim.Native.Nat.{ℕ, zero, suc, _+_, _-_, _*_, _/_, _%_, _≤_, _<_}
+use Prim.Native.Nat.{ℕ, zero, suc, _+_, _-_, _/_, _%_, _≤_, _<_}
 use native.Mathlib.Decide.{decLe}
 use native.Mathlib.Omega.{arith}
 use lib.ListN.{length, getD, drop, take}
@@ -23,11 +23,6 @@ pub bytes-append : (a b : List Item) → bytes (a ++ b) ≡ bytes a ++ bytes b
 unfolding bytes
 bytes-append [] b = refl
 bytes-append (i ∷ a) b = ap (λ (r : List ℕ). number i / 256 ∷ number i % 256 ∷ r) (bytes-append a b)
-
-pub length-bytes : (l : List Item) → length (bytes l) ≡ 2 * length l
-unfolding bytes
-length-bytes [] = refl
-length-bytes (i ∷ l) = omega (arith, length-bytes l)
 
 module _ (sig pool tab : List ℕ) where
   unfoldable pub itemBytes : ℕ → ℕ → List ℕ
