@@ -5,8 +5,10 @@
  * Every call answers 0, or the number of the refusal. A refused call changes nothing: no
  * table, no answer buffer and no number behind a pointer. docs/MANUAL.md tells the rest.
  *
- * Every area is a pointer and a count of elements. A pointer may be null where its count is
- * 0. An area that a call writes must not overlap any other area of that call.
+ * What the caller owes: every area is a pointer and a count of elements; the pointer is aligned
+ * and points to as many elements as the count says, or may be null where the count is 0. A
+ * pointer to a number that is written is not null. An area or number that a call writes must not
+ * overlap any other area or number of that call.
  */
 #ifndef AZUNKEFOGO_H
 #define AZUNKEFOGO_H

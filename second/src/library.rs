@@ -226,7 +226,7 @@ extern "C" {
         signature_count: usize,
         term: *const u8,
         term_count: usize,
-        number: usize,
+        i: usize,
         start: *mut usize,
         length: *mut usize,
     ) -> u32;

@@ -39,45 +39,47 @@ impl Tables {
     }
 }
 
-/// Declares a call whose first arguments are the eight tables.
-macro_rules! over_tables {
-    ($name:ident, $kind:tt, ($($more:ident : $type:ty),*)) => {
+/// Declares calls whose first arguments are the eight tables.
+macro_rules! exported {
+    ($($name:ident ($($more:ident : $kind:ty),*) over $pointer:tt;)*) => {
         extern "C" {
-            fn $name(
-                bytes: *$kind u8, bytes_count: usize,
-                used: *$kind u64, used_count: usize,
-                label: *$kind u32, label_count: usize,
-                link: *$kind u16, link_count: usize,
-                sets0: *$kind u64, sets0_count: usize,
-                sets1: *$kind u64, sets1_count: usize,
-                sets2: *$kind u64, sets2_count: usize,
-                sets3: *$kind u64, sets3_count: usize,
-                $($more: $type),*
-            ) -> u32;
+            $(fn $name(
+                bytes: *$pointer u8, bytes_count: usize,
+                used: *$pointer u64, used_count: usize,
+                label: *$pointer u32, label_count: usize,
+                link: *$pointer u16, link_count: usize,
+                sets0: *$pointer u64, sets0_count: usize,
+                sets1: *$pointer u64, sets1_count: usize,
+                sets2: *$pointer u64, sets2_count: usize,
+                sets3: *$pointer u64, sets3_count: usize,
+                $($more: $kind),*
+            ) -> u32;)*
         }
     };
 }
 
-over_tables!(azunkefogo_open, mut, (signature: *const u8, signature_count: usize));
-over_tables!(azunkefogo_insert, mut, (term: *const u8, term_count: usize, slot: *mut usize));
-over_tables!(azunkefogo_delete, mut, (slot: usize));
-over_tables!(azunkefogo_with_key, const, (
-    key: *const u8, key_count: usize,
-    out: *mut u8, out_count: usize,
-    count: *mut usize
-));
-over_tables!(azunkefogo_retrieve, const, (
-    relation: usize,
-    question: *const u8, question_count: usize,
-    out: *mut u8, out_count: usize,
-    candidates: *mut usize, answers: *mut usize
-));
-over_tables!(azunkefogo_solve, const, (
-    slot: usize,
-    question: *const u8, question_count: usize,
-    out: *mut u8, out_count: usize,
-    fields: *mut usize, written: *mut usize
-));
+exported! {
+    azunkefogo_open(signature: *const u8, signature_count: usize) over mut;
+    azunkefogo_insert(term: *const u8, term_count: usize, slot: *mut usize) over mut;
+    azunkefogo_delete(slot: usize) over mut;
+    azunkefogo_with_key(
+        key: *const u8, key_count: usize,
+        out: *mut u8, out_count: usize,
+        count: *mut usize
+    ) over const;
+    azunkefogo_retrieve(
+        relation: usize,
+        question: *const u8, question_count: usize,
+        out: *mut u8, out_count: usize,
+        candidates: *mut usize, answers: *mut usize
+    ) over const;
+    azunkefogo_solve(
+        slot: usize,
+        question: *const u8, question_count: usize,
+        out: *mut u8, out_count: usize,
+        fields: *mut usize, written: *mut usize
+    ) over const;
+}
 
 extern "C" {
     fn azunkefogo_check_signature(signature: *const u8, signature_count: usize) -> u32;
@@ -92,7 +94,7 @@ extern "C" {
         signature_count: usize,
         term: *const u8,
         term_count: usize,
-        number: usize,
+        i: usize,
         start: *mut usize,
         length: *mut usize,
     ) -> u32;
