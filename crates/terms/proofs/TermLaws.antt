@@ -347,3 +347,8 @@ passing-end sig t at opened c h a b =
 -- what a yes of the pass has shown
 pub is-good : (sig t : List ℕ) (r : Bool) → r ≡ eqb (refusal sig t) 0 → r ≡ true → Good sig t
 is-good sig t r h e = good sig t (eqb-true (refusal sig t) 0 (sym h ∙ e))
+
+-- what has no length is empty
+pub none-long : (l : List ℕ) → length l ≡ 0 → l ≡ []
+none-long [] h = refl
+none-long (x ∷ l) h = absurd (omega arith)

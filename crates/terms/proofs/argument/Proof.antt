@@ -4,8 +4,8 @@ use native.Mathlib.Omega.{arith}
 use native.Mathlib.Nat.{add-sub-cancel-left}
 use lib.ListN.{length, drop, take, length-drop}
 use borrow.Author.Tests.{eq-eqb, ne-eqb}
-use Rattle.terms.specs.Terms.{argBytes, argRefusal}
-use Rattle.terms.proofs.TermLaws.{arg-none, arg-in, args-within}
+use Rattle.terms.specs.Terms.{argBytes, argStart, argRefusal}
+use Rattle.terms.proofs.TermLaws.{arg-none, arg-in, args-within, none-long}
 use Rattle.laws.proofs.Lists.{tail-part}
 use borrow.Author.Needs.{needs}
 use Rattle.terms.proofs.argument.Statement.{statement}
@@ -24,9 +24,9 @@ part-result-end : tie.Need-part-result-end
 part-result-end c = omega arith
 
 returns : tie.Need-returns
-unfolding argBytes
+unfolding argBytes argStart
 returns c = let e : argRefusal _ _ _ ≡ 0 → ⊥ = λ h. c .before .if1 .taken (c .before .before .argument-refusal .ensures ∙ h) in
-    rw (ne-eqb _ _ e)
+    (rw (ne-eqb _ _ e) (none-long _ (omega (arith, c .result .given .1))), rw (ne-eqb _ _ e))
 
 sub-arg-at : tie.Need-sub-arg-at
 sub-arg-at c = arg-none _ _ _ (sym (c .before .argument-refusal .ensures) ∙ c .if1 .left) .1
@@ -65,11 +65,11 @@ part-result-end-2 : tie.Need-part-result-end-2
 part-result-end-2 c = omega (arith, arg-in _ _ _ _ _ (sym (c .before .before .before .before .argument-refusal .ensures) ∙ c .before .before .before .if1 .left) (c .before .before .arg-at .ensures) (c .walk .ensures) .0)
 
 returns-2 : tie.Need-returns-2
-unfolding argBytes
+unfolding argBytes argStart
 returns-2 c = let b = c .before in
     let r = sym (b .before .before .before .before .argument-refusal .ensures) ∙ b .before .before .before .if1 .left in
     let g = arg-in _ _ _ _ _ r (b .before .before .arg-at .ensures) (b .walk .ensures) in
-    rw (eq-eqb _ _ r, ← b .before .before .arg-at .ensures, add-sub-cancel-left, ← g .1)
+    (rw (eq-eqb _ _ r, ← b .before .before .arg-at .ensures, add-sub-cancel-left, ← g .1), rw (eq-eqb _ _ r, ← b .before .before .arg-at .ensures))
 
 pub argument-spec : {M : Type 1} → statement M
 argument-spec =
