@@ -38,6 +38,12 @@ exported! {
         out: *mut u8, out_count: usize,
         candidates: *mut usize, answers: *mut usize
     ) over const;
+    azunkefogo_solve(
+        slot: usize,
+        question: *const u8, question_count: usize,
+        out: *mut u8, out_count: usize,
+        fields: *mut usize, written: *mut usize
+    ) over const;
 }
 
 extern "C" {
@@ -107,6 +113,17 @@ impl Tables {
         let (pointer, count) = (signature.as_ptr(), signature.len());
         let number = with_tables!(azunkefogo_open, as_mut_ptr, self, pointer, count);
         assert_eq!(number, 0, "the signature is accepted");
+    }
+
+    /// The bytes of the record of a slot's term and a question.
+    pub fn solve(&self, slot: usize, question: &[u8], out: &mut [u8]) -> Result<usize, u32> {
+        let (mut fields, mut written) = (0, 0);
+        let (pointer, count) = (question.as_ptr(), question.len());
+        let (to, room) = (out.as_mut_ptr(), out.len());
+        let number = with_tables!(
+            azunkefogo_solve, as_ptr, self, slot, pointer, count, to, room, &mut fields, &mut written
+        );
+        answer(number, written)
     }
 
     pub fn insert(&mut self, term: &[u8]) -> Result<usize, u32> {

@@ -46,30 +46,30 @@ module _ (sig pool tab : List ℕ) (y : ℕ) (some : getD tab y 0 ≢ 0) where
     five = omega (arith, length-part sig pool tab y some, room)
 
     -- the head but for the two bytes of the length
-    abbrev pub headed : ℕ → List ℕ
-    headed z = set (set (set out 0 16) 3 128) 4 z
+    abbrev pub headed : ℕ → ℕ → List ℕ
+    headed g z = set (set (set out 0 16) 3 g) 4 z
 
-    headed-length : (z : ℕ) → length (headed z) ≡ length out
-    headed-length z = length-set (set (set out 0 16) 3 128) 4 z ∙ length-set (set out 0 16) 3 128 ∙ length-set out 0 16
+    headed-length : (g z : ℕ) → length (headed g z) ≡ length out
+    headed-length g z = length-set (set (set out 0 16) 3 g) 4 z ∙ length-set (set out 0 16) 3 g ∙ length-set out 0 16
 
-    pub value-room : (z e : ℕ) → e ≡ getD tab y 0 → length (termBytes sig pool tab 63 (e - 1)) ≤ length (take (length (headed z) - 5) (drop 5 (headed z)))
-    value-room z e h = rw (tail-part (headed z) 5) (omega (arith, length-drop 5 (headed z), headed-length z, value-length e h, room))
+    pub value-room : (g z e : ℕ) → e ≡ getD tab y 0 → length (termBytes sig pool tab 63 (e - 1)) ≤ length (take (length (headed g z) - 5) (drop 5 (headed g z)))
+    value-room g z e h = rw (tail-part (headed g z) 5) (omega (arith, length-drop 5 (headed g z), headed-length g z, value-length e h, room))
 
     -- the value written behind it
-    module _ (z : ℕ) (last : List ℕ) where
+    module _ (g z : ℕ) (last : List ℕ) where
       abbrev pub filled-in : List ℕ
-      filled-in = putMid 5 (length (headed z) - 5) (headed z) last
+      filled-in = putMid 5 (length (headed g z) - 5) (headed g z) last
 
-      pub filled-length : length last ≡ length (take (length (headed z) - 5) (drop 5 (headed z))) → length filled-in ≡ length out
-      filled-length k = same-len-mid 5 (length (headed z) - 5) (headed z) last k ∙ headed-length z
+      pub filled-length : length last ≡ length (take (length (headed g z) - 5) (drop 5 (headed g z))) → length filled-in ≡ length out
+      filled-length k = same-len-mid 5 (length (headed g z) - 5) (headed g z) last k ∙ headed-length g z
 
       -- and the length: the field
-      pub field-put : (e r h l : ℕ) → z ≡ y → e ≡ getD tab y 0 → r ≡ length (termBytes sig pool tab 63 (e - 1)) → h ≡ (r + 2) / 256 → l ≡ (r + 2) % 256
-          → last ≡ front (termBytes sig pool tab 63 (e - 1)) (take (length (headed z) - 5) (drop 5 (headed z)))
+      pub field-put : (e r h l : ℕ) → g ≡ 128 → z ≡ y → e ≡ getD tab y 0 → r ≡ length (termBytes sig pool tab 63 (e - 1)) → h ≡ (r + 2) / 256 → l ≡ (r + 2) % 256
+          → last ≡ front (termBytes sig pool tab 63 (e - 1)) (take (length (headed g z) - 5) (drop 5 (headed g z)))
           → set (set filled-in 1 h) 2 l ≡ front (part sig pool tab y) out
-      field-put e r h l zy ey rw₀ hh ll le =
-          ap (λ (x : List ℕ). set (set x 1 h) 2 l) (tail-back 5 (headed z) last)
-          ∙ field-front out w last z h l five (hh ∙ ap (λ (j : ℕ). (j + 2) / 256) size) (ll ∙ ap (λ (j : ℕ). (j + 2) % 256) size) written
+      field-put e r h l gh zy ey rw₀ hh ll le =
+          ap (λ (x : List ℕ). set (set x 1 h) 2 l) (tail-back 5 (headed g z) last)
+          ∙ field-front out w last z g h l five gh (hh ∙ ap (λ (j : ℕ). (j + 2) / 256) size) (ll ∙ ap (λ (j : ℕ). (j + 2) % 256) size) written
           ∙ ap (λ (j : ℕ). front (field j w) out) zy ∙ ap (λ (x : List ℕ). front x out) (sym (part-some sig pool tab y some))
         where
           w : List ℕ
@@ -79,5 +79,5 @@ module _ (sig pool tab : List ℕ) (y : ℕ) (some : getD tab y 0 ≢ 0) where
           size = rw₀ ∙ ap (λ (j : ℕ). length (termBytes sig pool tab 63 (j - 1))) ey
 
           written : last ≡ front w (drop 5 out)
-          written = le ∙ ap (λ (x : List ℕ). front (termBytes sig pool tab 63 (e - 1)) x) (tail-part (headed z) 5 ∙ drop-five out z)
+          written = le ∙ ap (λ (x : List ℕ). front (termBytes sig pool tab 63 (e - 1)) x) (tail-part (headed g z) 5 ∙ drop-five out g z)
               ∙ ap (λ (j : ℕ). front (termBytes sig pool tab 63 (j - 1)) (drop 5 out)) ey

@@ -75,21 +75,22 @@ module _ (sig pool tab : List ℕ) where
       go (suc p) q = length-field y (valueBytes y) ∙ omega (arith, length-bytes (value sig pool tab 64 y))
 
 -- the head of a field written around a value that is written after it
-pub field-front : (out w last : List ℕ) (y a b : ℕ) → 5 ≤ length out → a ≡ (length w + 2) / 256 → b ≡ (length w + 2) % 256
+pub field-front : (out w last : List ℕ) (y g a b : ℕ) → 5 ≤ length out → g ≡ 128
+    → a ≡ (length w + 2) / 256 → b ≡ (length w + 2) % 256
     → last ≡ front w (drop 5 out)
-    → set (set (take 5 (set (set (set out 0 16) 3 128) 4 y) ++ last) 1 a) 2 b ≡ front (field y w) out
+    → set (set (take 5 (set (set (set out 0 16) 3 g) 4 y) ++ last) 1 a) 2 b ≡ front (field y w) out
 unfolding field
-field-front [] w last y a b h p q e = absurd (omega arith)
-field-front (x0 ∷ []) w last y a b h p q e = absurd (omega arith)
-field-front (x0 ∷ x1 ∷ []) w last y a b h p q e = absurd (omega arith)
-field-front (x0 ∷ x1 ∷ x2 ∷ []) w last y a b h p q e = absurd (omega arith)
-field-front (x0 ∷ x1 ∷ x2 ∷ x3 ∷ []) w last y a b h p q e = absurd (omega arith)
-field-front (x0 ∷ x1 ∷ x2 ∷ x3 ∷ x4 ∷ out) w last y a b h p q e = rw (p, q, e) refl
+field-front [] w last y g a b h r p q e = absurd (omega arith)
+field-front (x0 ∷ []) w last y g a b h r p q e = absurd (omega arith)
+field-front (x0 ∷ x1 ∷ []) w last y g a b h r p q e = absurd (omega arith)
+field-front (x0 ∷ x1 ∷ x2 ∷ []) w last y g a b h r p q e = absurd (omega arith)
+field-front (x0 ∷ x1 ∷ x2 ∷ x3 ∷ []) w last y g a b h r p q e = absurd (omega arith)
+field-front (x0 ∷ x1 ∷ x2 ∷ x3 ∷ x4 ∷ out) w last y g a b h r p q e = rw (r, p, q, e) refl
 
-pub drop-five : (out : List ℕ) (y : ℕ) → drop 5 (set (set (set out 0 16) 3 128) 4 y) ≡ drop 5 out
-drop-five [] y = refl
-drop-five (x0 ∷ []) y = refl
-drop-five (x0 ∷ x1 ∷ []) y = refl
-drop-five (x0 ∷ x1 ∷ x2 ∷ []) y = refl
-drop-five (x0 ∷ x1 ∷ x2 ∷ x3 ∷ []) y = refl
-drop-five (x0 ∷ x1 ∷ x2 ∷ x3 ∷ x4 ∷ out) y = refl
+pub drop-five : (out : List ℕ) (g y : ℕ) → drop 5 (set (set (set out 0 16) 3 g) 4 y) ≡ drop 5 out
+drop-five [] g y = refl
+drop-five (x0 ∷ []) g y = refl
+drop-five (x0 ∷ x1 ∷ []) g y = refl
+drop-five (x0 ∷ x1 ∷ x2 ∷ []) g y = refl
+drop-five (x0 ∷ x1 ∷ x2 ∷ x3 ∷ []) g y = refl
+drop-five (x0 ∷ x1 ∷ x2 ∷ x3 ∷ x4 ∷ out) g y = refl

@@ -5,6 +5,7 @@ use laws::low16;
 use laws::wide;
 use laws::wide16;
 use unify::opens;
+use variables::WrittenVariable;
 ghost use mathlib.Core.Path.{_≡_};
 ghost use Prim.Native.Nat.{ℕ, _≤_, _<_, min};
 ghost use lib.ListN.{length, getD};
@@ -26,7 +27,7 @@ fn weight(sz: &[u16; 64], c: usize) -> usize
     if c < VARIABLE {
         1
     } else {
-        wide16(sz[c - VARIABLE])
+        wide16(sz[WrittenVariable::of_item(c).index()])
     }
 }
 

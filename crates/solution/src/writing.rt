@@ -4,6 +4,7 @@ use laws::low;
 use laws::wide;
 use laws::wide16;
 use unify::opens;
+use variables::WrittenVariable;
 ghost use mathlib.Core.Path.{_≡_};
 ghost use Prim.Native.Nat.{ℕ, _≤_, _<_};
 ghost use lib.ListN.{length, getD};
@@ -25,7 +26,7 @@ fn bound_to(tab: &[u8; 64], c: usize, levels: usize) -> usize
     if levels == 0 {
         return 0;
     }
-    wide(tab[c - VARIABLE])
+    wide(tab[WrittenVariable::of_item(c).index()])
 }
 
 // The value of the item c in bytes at the start of out; how many.
@@ -79,9 +80,10 @@ fn put_field(sig: &[u8], pool: &[u16], tab: &[u8; 64], out: &mut [u8], y: usize)
         (now (out .exit)) r ⌝ }
 {
     let e = wide(tab[y]);
+    let c = wide16(WrittenVariable(low(y)).item());
     out[0] = 16;
-    out[3] = 128;
-    out[4] = low(y);
+    out[3] = low(c / 256);
+    out[4] = low(c % 256);
     let n = put(sig, pool, tab, &mut out[5..], e - 1, 63);
     out[1] = low((n + 2) / 256);
     out[2] = low((n + 2) % 256);

@@ -14,7 +14,7 @@ abbrev pub Faced : List ℕ → ℕ → ℕ → Face → Type 0
 Faced pool p r Same = (sig : List ℕ) → term sig pool p ≡ term sig pool r
 Faced pool p r Clash = (getD pool p 0 < variableBase) × (getD pool r 0 < variableBase) × (getD pool p 0 ≢ getD pool r 0)
 Faced pool p r (Bind x u) = (w : ℕ) × (((w ≡ p) × (u ≡ r)) ⊎ ((w ≡ r) × (u ≡ p)))
-    × (getD pool w 0 ≡ variableBase + x) × (getD pool u 0 < variableBase + x)
+    × (getD pool w 0 ≡ variableBase + x .0) × (getD pool u 0 < variableBase + x .0)
 Faced pool p r Merge = (getD pool p 0 < variableBase) × (getD pool p 0 ≡ getD pool r 0)
 
 pub same-var : (pool : List ℕ) (p r : ℕ) → p < length pool → r < length pool → variableBase ≤ getD pool p 0 → getD pool p 0 ≡ getD pool r 0 → (sig : List ℕ) → term sig pool p ≡ term sig pool r

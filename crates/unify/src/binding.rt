@@ -3,6 +3,7 @@ use crate::walk::opens;
 use laws::VARIABLE;
 use laws::low;
 use laws::wide16;
+use variables::WrittenVariable;
 ghost use mathlib.Core.Path.{_≡_};
 ghost use mathlib.Core.List.{map};
 ghost use Prim.Native.Nat.{_<_};
@@ -17,7 +18,11 @@ fn set_of(masks: &[u64; 64], c: usize) -> u64
     requires { ⌜ c < 32832 ⌝ }
     ensures { λ r. ⌜ r ≡ setOf (now (masks .entry)) c ⌝ }
 {
-    if c < VARIABLE { 0 } else { masks[c - VARIABLE] }
+    if c < VARIABLE {
+        0
+    } else {
+        masks[WrittenVariable::of_item(c).index()]
+    }
 }
 
 // The set of the variables that the term at p has under the bindings.
@@ -62,21 +67,23 @@ fn spread_all(masks: &mut [u64; 64], x: usize, m: u64)
     }
 }
 
-// x bound to the node u, unless x occurs in it; whether it was.
+// The variable bound to the node u, unless it occurs in it; whether it was.
 pub fn bind(
     sig: &[u8],
     pool: &[u16],
     tab: &mut [u8; 64],
     masks: &mut [u64; 64],
-    x: usize,
+    variable: WrittenVariable,
     u: usize,
 ) -> bool
-    requires { ⌜ Given (now sig) (now pool) × (length (now tab) ≡ 64) × (length (now masks) ≡ 64) × (x < 64)
-        × (u < length (now pool)) ⌝ }
-    ensures { λ r. ⌜ Bound x u (maskOf (now (masks .entry)) 0 (term (now (sig .entry)) (now (pool .entry)) u))
+    requires { ⌜ Given (now sig) (now pool) × (length (now tab) ≡ 64) × (length (now masks) ≡ 64)
+        × (variable .0 < 64) × (u < length (now pool)) ⌝ }
+    ensures { λ r. ⌜ Bound (variable .0) u
+        (maskOf (now (masks .entry)) 0 (term (now (sig .entry)) (now (pool .entry)) u))
         (now (tab .entry)) (now (tab .exit)) (now (masks .entry)) (now (masks .exit)) r ⌝ }
 {
     let m = mask_of(sig, pool, masks, u);
+    let x = variable.index();
     if on(m, x) == 1 {
         return false;
     }

@@ -12,6 +12,7 @@ use laws::wide16;
 pub use loading::load_both;
 use merging::merge;
 use merging::pair;
+use variables::WrittenVariable;
 pub use walk::opens;
 ghost use mathlib.Core.Path.{_≡_};
 ghost use Prim.Native.Nat.{ℕ, _^_, _<_};
@@ -33,7 +34,7 @@ fn deref(tab: &[u8; 64], pool: &[u16], p: usize) -> usize
         if c < VARIABLE {
             return r;
         }
-        let e = wide(tab[c - VARIABLE]);
+        let e = wide(tab[WrittenVariable::of_item(c).index()]);
         if e == 0 {
             return r;
         }
@@ -44,12 +45,13 @@ fn deref(tab: &[u8; 64], pool: &[u16], p: usize) -> usize
 enum Face {
     Same,
     Clash,
-    Bind(usize, usize),
+    Bind(WrittenVariable, usize),
     Merge,
 }
 
 fn meet(pool: &[u16], p: usize, r: usize) -> Face
-    requires { ⌜ (p < length (now pool)) × (r < length (now pool)) ⌝ }
+    requires { ⌜ (p < length (now pool)) × (r < length (now pool))
+        × ((k : ℕ) → k < length (now pool) → getD (now pool) k 0 < 32832) ⌝ }
     ensures { λ f. ⌜ Faced (now (pool .entry)) p r f ⌝ }
 {
     if p == r {
@@ -67,12 +69,12 @@ fn meet(pool: &[u16], p: usize, r: usize) -> Face
         if b < VARIABLE {
             return Face::Clash;
         }
-        return Face::Bind(b - VARIABLE, p);
+        return Face::Bind(WrittenVariable::of_item(b), p);
     }
     if a < VARIABLE {
         return Face::Clash;
     }
-    Face::Bind(a - VARIABLE, r)
+    Face::Bind(WrittenVariable::of_item(a), r)
 }
 
 // Each variable in its own set, each node in its own class.

@@ -4,10 +4,16 @@ use native.Mathlib.Omega.{arith}
 use Prim.Native.Nat.{ℕ, _+_, _<_}
 use Rattle.variables.specs.declared.StoredVariable.{StoredVariable}
 use Rattle.variables.specs.declared.QuestionVariable.{QuestionVariable}
+use Rattle.variables.specs.declared.WrittenVariable.{WrittenVariable}
 use Rattle.variables.specs.declared.Side.{Side}
 use Rattle.variables.specs.declared.Side.the-variants.{Stored, Question}
 use Rattle.variables.specs.declared.Bank.the-variants as Bank
 use Rattle.variables.specs.Banks.{bankOf}
+use Rattle.laws.specs.Sizes.{variableBase}
+
+-- '0x8000 + v is variable v': the number v, one of n, of the item c
+abbrev pub OfItem : ℕ → ℕ → ℕ → Type 0
+OfItem n c v = (v < n) × (variableBase + v ≡ c)
 
 -- one of 32 on its own side, moved by that side's bank
 abbrev pub StandsFor : ℕ → Side → Type 0
@@ -19,6 +25,19 @@ stored-one u v e = ap (λ z. record { 0 = z }) e
 
 question-one : (u v : QuestionVariable) → u .0 ≡ v .0 → u ≡ v
 question-one u v e = ap (λ z. record { 0 = z }) e
+
+written-one : (u v : WrittenVariable) → u .0 ≡ v .0 → u ≡ v
+written-one u v e = ap (λ z. record { 0 = z }) e
+
+-- an item is one variable of each kind
+pub stored-item-one : (n c : ℕ) (u v : StoredVariable) → OfItem n c (u .0) → OfItem n c (v .0) → u ≡ v
+stored-item-one n c u v h k = stored-one u v (omega (arith, h .1, k .1))
+
+pub question-item-one : (n c : ℕ) (u v : QuestionVariable) → OfItem n c (u .0) → OfItem n c (v .0) → u ≡ v
+question-item-one n c u v h k = question-one u v (omega (arith, h .1, k .1))
+
+pub written-item-one : (n c : ℕ) (u v : WrittenVariable) → OfItem n c (u .0) → OfItem n c (v .0) → u ≡ v
+written-item-one n c u v h k = written-one u v (omega (arith, h .1, k .1))
 
 -- a written number stands for one variable
 pub stands-one : (w : ℕ) (a b : Side) → StandsFor w a → StandsFor w b → a ≡ b

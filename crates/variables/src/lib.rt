@@ -1,8 +1,9 @@
 // The three kinds of variable (SCOPE.md, 'Term bytes'). A stored number and a question number meet only as written.
+use laws::VARIABLE;
 use laws::VARIABLE16;
 ghost use mathlib.Core.Path.{_≡_};
 ghost use Prim.Native.Nat.{_+_, _≤_, _<_};
-ghost use Rattle.variables.specs.Sides.{StandsFor};
+ghost use Rattle.variables.specs.Sides.{StandsFor, OfItem};
 ghost use Rattle.laws.specs.Sizes.{variableBase, variableEnd};
 
 // A variable of a stored term, 0 to 31.
@@ -30,7 +31,7 @@ impl StoredVariable {
     // The variable of an item of a stored term.
     pub fn of_item(c: u16) -> Self
         requires { ⌜ (variableBase ≤ c) × (c < variableEnd) ⌝ }
-        ensures { λ r. ⌜ (r .0 < 32) × (variableBase + r .0 ≡ c) ⌝ }
+        ensures { λ r. ⌜ OfItem 32 c (r .0) ⌝ }
     {
         Self((c - VARIABLE16) as u8)
     }
@@ -48,7 +49,7 @@ impl QuestionVariable {
     // The variable of an item of a question.
     pub fn of_item(c: u16) -> Self
         requires { ⌜ (variableBase ≤ c) × (c < variableEnd) ⌝ }
-        ensures { λ r. ⌜ (r .0 < 32) × (variableBase + r .0 ≡ c) ⌝ }
+        ensures { λ r. ⌜ OfItem 32 c (r .0) ⌝ }
     {
         Self((c - VARIABLE16) as u8)
     }
@@ -64,11 +65,18 @@ impl QuestionVariable {
 
 impl WrittenVariable {
     // The variable of an item of a written term.
-    pub fn of_item(c: u16) -> Self
+    pub fn of_item(c: usize) -> Self
         requires { ⌜ (variableBase ≤ c) × (c < 32832) ⌝ }
-        ensures { λ r. ⌜ (r .0 < 64) × (variableBase + r .0 ≡ c) ⌝ }
+        ensures { λ r. ⌜ OfItem 64 c (r .0) ⌝ }
     {
-        Self((c - VARIABLE16) as u8)
+        Self((c - VARIABLE) as u8)
+    }
+
+    // Its index in a table of all written variables.
+    pub fn index(self) -> usize
+        ensures { λ r. ⌜ r ≡ self .0 ⌝ }
+    {
+        self.0 as usize
     }
 
     // Its item.

@@ -33,53 +33,57 @@ returns c = let s = (c .before .before .before .before .before) in
     let code : (c .before .wide16) .result ≡ getD pool r 0 = (c .before .wide16) .ensures .0 in
     record { low = l .inv .0; same = l .inv .1; stops = λ h. absurd (omega (arith, c .if1 .taken)) }
 
-element-copy-out-wide : tie.Need-element-copy-out-wide Inv-loop μ-loop
-element-copy-out-wide c = let s = (c .before .before .before .before .before) in
+of-item-requires : tie.Need-of-item-requires Inv-loop μ-loop
+of-item-requires c κs = let s = (c .before .before .before .before .before) in
     let pool = s .args .pool .now in
     let l = (c .before .before .before) .loop in
-    let r = l .r in
-    let code : (c .before .wide16) .result ≡ getD pool r 0 = (c .before .wide16) .ensures .0 in
-    omega (arith, s .pre .2 r (l .inv .0))
+    let code : (c .before .wide16) .result ≡ getD pool (l .r) 0 = (c .before .wide16) .ensures .0 in
+    (omega (arith, (c .if1) .left), omega (arith, s .pre .2 (l .r) (l .inv .0)))
+
+index-requires : tie.Need-index-requires Inv-loop μ-loop
+index-requires c κs = tt
+
+element-copy-out-wide : tie.Need-element-copy-out-wide Inv-loop μ-loop
+element-copy-out-wide c = omega (arith, (c .before .of-item) .ensures .0, (c .index) .ensures)
 
 wide-requires : tie.Need-wide-requires Inv-loop μ-loop
 wide-requires c κs = tt
 
+-- the variable's entry, by the number of its item
+entry : (c : tie.After-wide Inv-loop μ-loop) → (c .wide) .result ≡ getD ((c .before .before .before .before .before .before .before .before .before) .args .tab .now) (getD ((c .before .before .before .before .before .before .before .before .before) .args .pool .now) ((c .before .before .before .before .before .before .before) .loop .r) 0 - variableBase) 0
+entry c =
+    let code : (c .before .before .before .before .before .wide16) .result ≡ getD ((c .before .before .before .before .before .before .before .before .before) .args .pool .now) ((c .before .before .before .before .before .before .before) .loop .r) 0 = (c .before .before .before .before .before .wide16) .ensures .0 in
+    let place : (c .before .before .index) .result ≡ getD ((c .before .before .before .before .before .before .before .before .before) .args .pool .now) ((c .before .before .before .before .before .before .before) .loop .r) 0 - variableBase = omega (arith, (c .before .before .before .of-item) .ensures .1, (c .before .before .index) .ensures) in
+    (c .wide) .ensures .0 ∙ ap (λ (k : ℕ). getD ((c .before .before .before .before .before .before .before .before .before) .args .tab .now) k 0) place
+
 returns-2 : tie.Need-returns-2 Inv-loop μ-loop
-returns-2 c = let s = (c .before .before .before .before .before .before .before .before) in
-    let tab = s .args .tab .now in
-    let pool = s .args .pool .now in
-    let l = (c .before .before .before .before .before .before) .loop in
-    let r = l .r in
-    let code : (c .before .before .before .before .wide16) .result ≡ getD pool r 0 = (c .before .before .before .before .wide16) .ensures .0 in
-    let x = getD pool r 0 - variableBase in
-    let ent : (c .before .wide) .result ≡ getD tab x 0 = (c .before .wide) .ensures .0 ∙ ap (λ (k : ℕ). getD tab (k - variableBase) 0) code in
+returns-2 c = let l = (c .before .before .before .before .before .before .before .before) .loop in
+    let ent = entry (c .before) in
     record { low = l .inv .0; same = l .inv .1; stops = λ h. (omega (arith, c .if2 .taken)) }
 
 sub-r : tie.Need-sub-r Inv-loop μ-loop
 sub-r c = omega arith
 
 loop-less : tie.Need-loop-less Inv-loop μ-loop
-loop-less c = let s = (c .before .before .before .before .before .before .before .before) in
-    let tab = s .args .tab .now in
+loop-less c = let s = (c .before .before .before .before .before .before .before .before .before .before) in
     let pool = s .args .pool .now in
-    let l = (c .before .before .before .before .before .before) .loop in
-    let r = l .r in
-    let code : (c .before .before .before .before .wide16) .result ≡ getD pool r 0 = (c .before .before .before .before .wide16) .ensures .0 in
-    let x = getD pool r 0 - variableBase in
-    let ent : (c .before .wide) .result ≡ getD tab x 0 = (c .before .wide) .ensures .0 ∙ ap (λ (k : ℕ). getD tab (k - variableBase) 0) code in
+    let l = (c .before .before .before .before .before .before .before .before) .loop in
+    let x = getD pool (l .r) 0 - variableBase in
     let e = (c .before .wide) .result in
-    let q : getD tab x 0 ≡ suc (e - 1) = omega (arith, c .if2 .left) in
+    let ent = entry (c .before) in
+    let code : (c .before .before .before .before .before .before .wide16) .result ≡ getD pool (l .r) 0 = (c .before .before .before .before .before .before .wide16) .ensures .0 in
+    let q : getD (s .args .tab .now) x 0 ≡ suc (e - 1) = omega (arith, c .if2 .left) in
     omega (arith, s .pre .0 .down x (e - 1) q)
 
 loop-again : tie.Need-loop-again Inv-loop μ-loop
-loop-again c = let s = (c .before .before .before .before .before .before .before .before) in
+loop-again c = let s = (c .before .before .before .before .before .before .before .before .before .before) in
     let tab = s .args .tab .now in
     let pool = s .args .pool .now in
-    let l = (c .before .before .before .before .before .before) .loop in
+    let l = (c .before .before .before .before .before .before .before .before) .loop in
     let r = l .r in
-    let code : (c .before .before .before .before .wide16) .result ≡ getD pool r 0 = (c .before .before .before .before .wide16) .ensures .0 in
+    let code : (c .before .before .before .before .before .before .wide16) .result ≡ getD pool r 0 = (c .before .before .before .before .before .before .wide16) .ensures .0 in
     let x = getD pool r 0 - variableBase in
-    let ent : (c .before .wide) .result ≡ getD tab x 0 = (c .before .wide) .ensures .0 ∙ ap (λ (k : ℕ). getD tab (k - variableBase) 0) code in
+    let ent = entry (c .before) in
     let e = (c .before .wide) .result in
     let q : getD tab x 0 ≡ suc (e - 1) = omega (arith, c .if2 .left) in
     (omega (arith, s .pre .0 .inside x), way-more tab pool (s .args .p) r (e - 1) (l .inv .0) (omega arith) (s .pre .2 r (l .inv .0)) q (l .inv .1))
@@ -95,6 +99,8 @@ deref-spec =
     shared-slice-read-wide16
     wide16-requires
     returns
+    of-item-requires
+    index-requires
     element-copy-out-wide
     wide-requires
     returns-2

@@ -44,26 +44,20 @@ returns-3 c = let s = (c .before .before .before .before .before .before .before
 returns-4 : tie.Need-returns-4
 returns-4 c = search needs
 
+of-item-requires : tie.Need-of-item-requires
+of-item-requires c κs = let s = (c .before .before .before .before .before .before .before .before .before) in (c .if5 .left, omega (arith, (c .before .before .before .wide162) .ensures .0, s .pre .2 (s .args .r) (s .pre .1)))
+
 returns-5 : tie.Need-returns-5
-returns-5 c = let s = (c .before .before .before .before .before .before .before .before .before) in
-    let pool = s .args .pool .now in
-    let p = s .args .p in
-    let r = s .args .r in
-    let a : (c .before .before .before .before .before .wide16) .result ≡ getD pool p 0 = (c .before .before .before .before .before .wide16) .ensures .0 in
-    let b : (c .before .before .before .wide162) .result ≡ getD pool r 0 = (c .before .before .before .wide162) .ensures .0 in
-    (r, inr (refl, refl), omega arith, omega arith)
+returns-5 c = (_, inr (refl, refl), omega arith, omega arith)
 
 returns-6 : tie.Need-returns-6
 returns-6 c = search needs
 
+of-item-requires-2 : tie.Need-of-item-requires-2
+of-item-requires-2 c κs = let s = (c .before .before .before .before .before .before .before .before .before) in (c .if6 .left, omega (arith, (c .before .before .before .before .before .wide16) .ensures .0, s .pre .2 (s .args .p) (s .pre .0)))
+
 returns-7 : tie.Need-returns-7
-returns-7 c = let s = (c .before .before .before .before .before .before .before .before .before) in
-    let pool = s .args .pool .now in
-    let p = s .args .p in
-    let r = s .args .r in
-    let a : (c .before .before .before .before .before .wide16) .result ≡ getD pool p 0 = (c .before .before .before .before .before .wide16) .ensures .0 in
-    let b : (c .before .before .before .wide162) .result ≡ getD pool r 0 = (c .before .before .before .wide162) .ensures .0 in
-    (p, inl (refl, refl), omega arith, omega arith)
+returns-7 c = (_, inl (refl, refl), omega arith, omega arith)
 
 pub meet-spec : {M : Type 1} → statement M
 meet-spec =
@@ -79,6 +73,8 @@ meet-spec =
     returns-2
     returns-3
     returns-4
+    of-item-requires
     returns-5
     returns-6
+    of-item-requires-2
     returns-7)

@@ -68,7 +68,7 @@ deref-requires-2 : tie.Need-deref-requires-2 Inv-loop μ-loop
 deref-requires-2 c κs = (top (c .before .before .before .before) .shape, omega (arith, inside (c .before .before .before .before) .1, (c .before .before .before .wide16) .ensures .0), (c .before .before .before .before .before .before .before .before .before .before .before .before) .pre .0 .named)
 
 meet-requires : tie.Need-meet-requires Inv-loop μ-loop
-meet-requires c κs = ((c .before .before .deref) .ensures .low, (c .deref2) .ensures .low)
+meet-requires c κs = ((c .before .before .deref) .ensures .low, (c .deref2) .ensures .low, (c .before .before .before .before .before .before .before .before .before .before .before .before .before) .pre .0 .named)
 
 enum-told : tie.Need-enum-told Inv-loop μ-loop
 enum-told c = search needs
@@ -101,7 +101,7 @@ bind-requires c κs = let a = (c .before .before .before .before .before .before
     let x = (c .before .before .before .f) .given .0 .0 in
     let u = (c .before .before .before .f) .given .0 .1 .0 in
     let q : Faced (a .pool .now) ((c .before .before .before .before .before .before .before .before .deref) .result) ((c .before .before .before .before .before .before .deref2) .result) (Bind x u) = subst (λ (f : Face). Faced (a .pool .now) ((c .before .before .before .before .before .before .before .before .deref) .result) ((c .before .before .before .before .before .before .deref2) .result) f) ((c .before .before .before .f) .given .1) ((c .before .before .before .before .before .meet) .ensures) in
-    ((c .before .before .before .before .before .before .before .before .before .before .before .before .before .before .before .before .before .before .before) .pre .0, v .shape .many, v .held .many, x-low (a .sig .now) (a .pool .now) ((c .before .before .before .before .before .before .before .before .before .before .before .before .before .before .before .before .before .before .before) .pre .0) (a .root) (l .stack) (l .n - 1) (l .tab) (l .masks) (l .cls) v ((c .before .before .before .before .before .before .before .before .deref) .result) ((c .before .before .before .before .before .before .deref2) .result) (left (c .before .before .before .before .before .before .before .before)) (right (c .before .before .before .before .before .before)) x u (q .0) (q .1) (q .2) (q .3), u-low (a .sig .now) (a .pool .now) ((c .before .before .before .before .before .before .before .before .before .before .before .before .before .before .before .before .before .before .before) .pre .0) (a .root) (l .stack) (l .n - 1) (l .tab) (l .masks) (l .cls) v ((c .before .before .before .before .before .before .before .before .deref) .result) ((c .before .before .before .before .before .before .deref2) .result) (left (c .before .before .before .before .before .before .before .before)) (right (c .before .before .before .before .before .before)) x u (q .0) (q .1) (q .2) (q .3))
+    ((c .before .before .before .before .before .before .before .before .before .before .before .before .before .before .before .before .before .before .before) .pre .0, v .shape .many, v .held .many, x-low (a .sig .now) (a .pool .now) ((c .before .before .before .before .before .before .before .before .before .before .before .before .before .before .before .before .before .before .before) .pre .0) (a .root) (l .stack) (l .n - 1) (l .tab) (l .masks) (l .cls) v ((c .before .before .before .before .before .before .before .before .deref) .result) ((c .before .before .before .before .before .before .deref2) .result) (left (c .before .before .before .before .before .before .before .before)) (right (c .before .before .before .before .before .before)) (x .0) u (q .0) (q .1) (q .2) (q .3), u-low (a .sig .now) (a .pool .now) ((c .before .before .before .before .before .before .before .before .before .before .before .before .before .before .before .before .before .before .before) .pre .0) (a .root) (l .stack) (l .n - 1) (l .tab) (l .masks) (l .cls) v ((c .before .before .before .before .before .before .before .before .deref) .result) ((c .before .before .before .before .before .before .deref2) .result) (left (c .before .before .before .before .before .before .before .before)) (right (c .before .before .before .before .before .before)) (x .0) u (q .0) (q .1) (q .2) (q .3))
 
 returns-2 : tie.Need-returns-2 Inv-loop μ-loop
 returns-2 c = let a = (c .before .before .before .before .before .before .before .before .before .before .before .before .before .before .before .before .before .before .before .before .before) .args in
@@ -109,7 +109,7 @@ returns-2 c = let a = (c .before .before .before .before .before .before .before
     let x = (c .before .before .before .before .before .f) .given .0 .0 in
     let u = (c .before .before .before .before .before .f) .given .0 .1 .0 in
     let q : Faced (a .pool .now) ((c .before .before .before .before .before .before .before .before .before .before .deref) .result) ((c .before .before .before .before .before .before .before .before .deref2) .result) (Bind x u) = subst (λ (f : Face). Faced (a .pool .now) ((c .before .before .before .before .before .before .before .before .before .before .deref) .result) ((c .before .before .before .before .before .before .before .before .deref2) .result) f) ((c .before .before .before .before .before .f) .given .1) ((c .before .before .before .before .before .before .before .meet) .ensures) in
-    ((λ e. absurd (omega arith)), λ d. run-occurs (a .sig .now) (a .pool .now) ((c .before .before .before .before .before .before .before .before .before .before .before .before .before .before .before .before .before .before .before .before .before) .pre .0) (a .root) (l .stack) (l .n - 1) (l .tab) (l .masks) (l .cls) (top (c .before .before .before .before .before .before .before .before .before .before .before .before .before)) ((c .before .before .before .before .before .before .before .before .before .before .deref) .result) ((c .before .before .before .before .before .before .before .before .deref2) .result) (left (c .before .before .before .before .before .before .before .before .before .before)) (right (c .before .before .before .before .before .before .before .before)) x u (q .0) (q .1) (q .2) (q .3) ((c .before .bind) .ensures .circle (not-true ((c .before .bind) .result) ((c .if1) .taken))))
+    ((λ e. absurd (omega arith)), λ d. run-occurs (a .sig .now) (a .pool .now) ((c .before .before .before .before .before .before .before .before .before .before .before .before .before .before .before .before .before .before .before .before .before) .pre .0) (a .root) (l .stack) (l .n - 1) (l .tab) (l .masks) (l .cls) (top (c .before .before .before .before .before .before .before .before .before .before .before .before .before)) ((c .before .before .before .before .before .before .before .before .before .before .deref) .result) ((c .before .before .before .before .before .before .before .before .deref2) .result) (left (c .before .before .before .before .before .before .before .before .before .before)) (right (c .before .before .before .before .before .before .before .before)) (x .0) u (q .0) (q .1) (q .2) (q .3) ((c .before .bind) .ensures .circle (not-true ((c .before .bind) .result) ((c .if1) .taken))))
 
 loop-less-2 : tie.Need-loop-less-2 Inv-loop μ-loop
 loop-less-2 c = omega arith
@@ -121,7 +121,7 @@ loop-again-2 c = let a = (c .before .before .before .before .before .before .bef
     let u = (c .before .before .before .before .before .f) .given .0 .1 .0 in
     let q : Faced (a .pool .now) ((c .before .before .before .before .before .before .before .before .before .before .deref) .result) ((c .before .before .before .before .before .before .before .before .deref2) .result) (Bind x u) = subst (λ (f : Face). Faced (a .pool .now) ((c .before .before .before .before .before .before .before .before .before .before .deref) .result) ((c .before .before .before .before .before .before .before .before .deref2) .result) f) ((c .before .before .before .before .before .f) .given .1) ((c .before .before .before .before .before .before .before .meet) .ensures) in
     let b = (c .before .bind) .ensures .free (not-false ((c .before .bind) .result) ((c .if1) .left)) in
-    rw (b .1, b .2) (run-bind (a .sig .now) (a .pool .now) ((c .before .before .before .before .before .before .before .before .before .before .before .before .before .before .before .before .before .before .before .before .before) .pre .0) (a .root) (l .stack) (l .n - 1) (l .tab) (l .masks) (l .cls) (top (c .before .before .before .before .before .before .before .before .before .before .before .before .before)) ((c .before .before .before .before .before .before .before .before .before .before .deref) .result) ((c .before .before .before .before .before .before .before .before .deref2) .result) (left (c .before .before .before .before .before .before .before .before .before .before)) (right (c .before .before .before .before .before .before .before .before)) x u (q .0) (q .1) (q .2) (q .3) (b .0))
+    rw (b .1, b .2) (run-bind (a .sig .now) (a .pool .now) ((c .before .before .before .before .before .before .before .before .before .before .before .before .before .before .before .before .before .before .before .before .before) .pre .0) (a .root) (l .stack) (l .n - 1) (l .tab) (l .masks) (l .cls) (top (c .before .before .before .before .before .before .before .before .before .before .before .before .before)) ((c .before .before .before .before .before .before .before .before .before .before .deref) .result) ((c .before .before .before .before .before .before .before .before .deref2) .result) (left (c .before .before .before .before .before .before .before .before .before .before)) (right (c .before .before .before .before .before .before .before .before)) (x .0) u (q .0) (q .1) (q .2) (q .3) (b .0))
 
 enum-told-3 : tie.Need-enum-told-3 Inv-loop μ-loop
 enum-told-3 c = search needs
