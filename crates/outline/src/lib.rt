@@ -8,12 +8,13 @@ use laws::wide16;
 use terms::arity;
 use variables::Bank;
 ghost use mathlib.Core.Path.{_≡_};
-ghost use mathlib.Core.List.{[], _∷_, _++_, map};
+ghost use mathlib.Core.List.{_++_, map};
 ghost use Prim.Native.Nat.{ℕ, _+_, _-_, _*_, _/_, _≤_, _<_};
-ghost use lib.ListN.{length, take, drop};
+ghost use lib.ListN.{length, drop};
 ghost use lib.Seq.{sets};
 ghost use Rattle.keys.specs.Keys.{endOf};
-ghost use Rattle.paths.specs.Ups.{kids, upsF};
+ghost use Rattle.outline.specs.Hung.{Hung};
+ghost use Rattle.paths.specs.Ups.{kids};
 ghost use Rattle.terms.specs.Terms.{arity as arityOf, numbers};
 
 // The numbers of the items of t as they stand, at the start of `out`; how many.
@@ -63,9 +64,7 @@ fn push(stack: &mut [u16], top: usize, n: usize, a: usize) -> usize
 pub fn ups(sig: &[u8], items: &[u16], out: &mut [u8]) -> usize
     requires { ⌜ (length (now items) ≤ 32) × (length (now items) ≤ length (now out))
         × ((x : ℕ) → arityOf (now sig) x ≤ 8) ⌝ }
-    ensures { λ r. ⌜ (r ≤ length (now (items .entry)))
-        × (take r (now (out .exit)) ≡ upsF (arityOf (now (sig .entry))) 0 (0 ∷ []) (now (items .entry)))
-        × (drop r (now (out .exit)) ≡ drop r (now (out .entry))) ⌝ }
+    ensures { λ r. ⌜ Hung (arityOf (now (sig .entry))) (now (items .entry)) (now (out .entry)) (now (out .exit)) r ⌝ }
 {
     let mut stack = [0u16; 257];
     let mut sp: usize = 256;
