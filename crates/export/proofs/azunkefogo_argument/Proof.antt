@@ -26,7 +26,7 @@ argument-start-requires c κs = search needs
 returns-2 : tie.Need-returns-2
 returns-2 c = let a = c .before .before .before .before .before .before .args in
     let e : argRefusal (a .sig .now) (a .term .now) (a .i) ≡ 0 = sym (c .before .before .before .argument-refusal .ensures) ∙ c .before .before .if1 .left in
-    (sym e, (c .argument-start .ensures ∙ start-told _ _ _ _ e, ap length (c .before .argument .ensures) ∙ length-told _ _ _ _ e))
+    (sym e, (c .argument-start .ensures ∙ start-told _ _ _ _ e, ap length (c .before .argument .ensures .0) ∙ length-told _ _ _ _ e))
 
 pub azunkefogo-argument-spec : {M : Type 1} → statement M
 azunkefogo-argument-spec =
