@@ -105,19 +105,30 @@ Printing =
     × (printed (signatureField ++ (4 ∷ 0 ∷ 0 ∷ [])) ≡ openLine ++ logLine)
     × (printed (signatureField ++ (4 ∷ 0 ∷ 1 ∷ 4 ∷ []))
     ≡ openLine ++ (114 ∷ 101 ∷ 116 ∷ 114 ∷ 105 ∷ 101 ∷ 118 ∷ 101 ∷ 32 ∷ 110 ∷ 111 ∷ 32 ∷ 54 ∷ 10 ∷ []))
+    -- 3 ranks before 6; and a retrieval from an empty store, `retrieve ok 0 0`
+    × (printed (signatureField ++ (4 ∷ 0 ∷ 1 ∷ 5 ∷ []))
+    ≡ openLine ++ (114 ∷ 101 ∷ 116 ∷ 114 ∷ 105 ∷ 101 ∷ 118 ∷ 101 ∷ 32 ∷ 110 ∷ 111 ∷ 32 ∷ 51 ∷ 10 ∷ []))
+    × (printed (signatureField ++ (4 ∷ 0 ∷ 3 ∷ 4 ∷ 0 ∷ 0 ∷ []))
+    ≡ openLine ++ (114 ∷ 101 ∷ 116 ∷ 114 ∷ 105 ∷ 101 ∷ 118 ∷ 101 ∷ 32 ∷ 111 ∷ 107 ∷ 32 ∷ 48 ∷ 32 ∷ 48 ∷ 10 ∷ []))
+    -- a record without fields: a is stored and asked, `insert ok 0` and `solve ok 0`
+    × (printed (signatureField ++ (2 ∷ 0 ∷ 2 ∷ 0 ∷ 0 ∷ 5 ∷ 0 ∷ 4 ∷ 0 ∷ 0 ∷ 0 ∷ 0 ∷ []))
+    ≡ openLine ++ (105 ∷ 110 ∷ 115 ∷ 101 ∷ 114 ∷ 116 ∷ 32 ∷ 111 ∷ 107 ∷ 32 ∷ 48 ∷ 10
+    ∷ 115 ∷ 111 ∷ 108 ∷ 118 ∷ 101 ∷ 32 ∷ 111 ∷ 107 ∷ 32 ∷ 48 ∷ 10 ∷ []))
     -- 'tag 5 with fewer than two'; of two bytes it has its fixed part, and 4 ranks before 6
     × (printed (signatureField ++ (5 ∷ 0 ∷ 1 ∷ 0 ∷ [])) ≡ openLine ++ logLine)
     × (printed (signatureField ++ (5 ∷ 0 ∷ 2 ∷ 0 ∷ 0 ∷ []))
     ≡ openLine ++ (115 ∷ 111 ∷ 108 ∷ 118 ∷ 101 ∷ 32 ∷ 110 ∷ 111 ∷ 32 ∷ 52 ∷ 10 ∷ []))
     -- 'for tag 3 one that is not exactly two bytes'
+    × (printed (signatureField ++ (3 ∷ 0 ∷ 0 ∷ [])) ≡ openLine ++ logLine)
     × (printed (signatureField ++ (3 ∷ 0 ∷ 1 ∷ 0 ∷ [])) ≡ openLine ++ logLine)
     × (printed (signatureField ++ (3 ∷ 0 ∷ 3 ∷ 0 ∷ 0 ∷ 0 ∷ [])) ≡ openLine ++ logLine)
     -- 'a later field that is tag 1'
     × (printed (signatureField ++ (1 ∷ 0 ∷ 4 ∷ 0 ∷ 0 ∷ 2 ∷ 1 ∷ [])) ≡ openLine ++ logLine)
     -- 'an unknown tag', and 'a cut field' after the first
     × (printed (signatureField ++ (6 ∷ 0 ∷ 0 ∷ [])) ≡ openLine ++ logLine)
+    × (printed (signatureField ++ (0 ∷ 0 ∷ 0 ∷ [])) ≡ openLine ++ logLine)
     × (printed (signatureField ++ (2 ∷ 0 ∷ 4 ∷ 0 ∷ 0 ∷ [])) ≡ openLine ++ logLine)
 
 pub printing : Printing
 unfolding printed textOfAll linesOf firstLines laterLines laterCall firstCall fieldsFrom fieldsWithin before fieldAt digits decimal hex slotList recordText plainLine refusedLine slotLine foundLine solvedLine answered empty after put freeFrom inUse keysFrom distinct place? key? candidates answers slotsFrom longFrom listed sigRefusal aritiesGood refusal numbers span declared itemsGood isCandidate candidate agree agreeAll treeOf keysOf endOf keysT keysA forest firsts others top stands bindings? solution solve by-free by-size step face face-var face-bound var-symbol var-var in? once-cases ℕ-discrete one at-bind at-swap at-follow decLe terms? codes moved matcher matching against items? item? same? recordOf countOf listedFrom bytes fieldBytes written
-printing = (refl, refl, refl, refl, refl, refl, refl, refl, refl, refl, refl, refl, refl, refl, refl)
+printing = (refl, refl, refl, refl, refl, refl, refl, refl, refl, refl, refl, refl, refl, refl, refl, refl, refl, refl, refl, refl)

@@ -3,28 +3,28 @@
 use Prim.Native.Nat.{ℕ, zero, suc, _+_, _-_, _≤_, _<_}
 use native.Mathlib.Decide.{ℕ-discrete}
 use native.Mathlib.Omega.{arith}
-use mathlib.Core.Path.{_≡_, refl, sym}
+use mathlib.Core.Path.{_≡_, refl, sym, ap, _∙_}
 use mathlib.Core.Logic.{_⊎_, inl, inr, _↔_, ⊎-elim}
 use mathlib.Core.Bool.{Bool, true, false}
 use mathlib.Core.Option.{Option, some, none}
 use mathlib.Core.List.{List, [], _∷_, _++_}
 use lib.Dec.{ltb, eqb}
-use lib.ListN.{length, drop, length-take, length-drop}
+use lib.ListN.{length, getD, drop, length-take, length-drop}
 use borrow.Author.Tests.{lt-ltb, ltb-true, ltb-false, eqb-true, eqb-false}
 use Rattle.laws.specs.Choice.{pick}
 use Rattle.laws.specs.Members.{In}
 use Rattle.laws.specs.Sizes.{inputLimit, answerRoom}
 use Rattle.terms.specs.Terms.{sigRefusal}
 use Rattle.definitions.specs.Answers.{Answer, refused, done, unless}
-use Rattle.library.specs.Store.{Store, Call, openWith, answered}
+use Rattle.library.specs.Store.{Store, Call, openWith, insert, delete, withKey, retrieve, solve, answered}
 use Rattle.log.specs.Fields.{fieldAt}
-use Rattle.log.specs.Lines.{digits, decimal, refusedLine}
+use Rattle.log.specs.Lines.{digits, decimal, plainLine, refusedLine, slotLine, foundLine, solvedLine}
 use Rattle.log.specs.Reading.{placeAfter, before, fieldsWithin, fieldsFrom, fieldsOf, fieldOr}
 use Rattle.log.specs.declared.field.Field.{Field}
 use Rattle.log.specs.declared.field.Field.the-variants.{End, Cut, Whole}
 use Rattle.log.proofs.Fields.{field-inside}
 use Rattle.turns.specs.Chosen.{chosen}
-use Rattle.turns.specs.Printed.{Line, answer, log, firstCall, deleteCall, retrieveCall, solveCall, laterCall, payload, callIn, moved, lineThen, laterLines, unlessRefused, unopened, firstLines, linesOf, textOf}
+use Rattle.turns.specs.Printed.{Line, answer, log, firstCall, deleteCall, retrieveCall, solveCall, laterCall, payload, callIn, moved, lineThen, laterLines, unlessRefused, unopened, firstLines, linesOf, textOf, wordOf, answerText}
 
 -- a whole field, number i of its log, with this tag and a payload of n bytes, that LOG is printed for
 pub data Wrong (i tag n : ℕ) : Type 0 where
@@ -395,3 +395,31 @@ log-alone s h = rw (lt-ltb inputLimit (length s) h)
 pub log-text : textOf log ≡ 108 ∷ 111 ∷ 103 ∷ 32 ∷ 110 ∷ 111 ∷ 32 ∷ 49 ∷ 54 ∷ 10 ∷ []
 unfolding refusedLine decimal digits
 log-text = refl
+
+-- no other line has these bytes
+first-letter : (c : Call) (a : Answer) → getD (answerText c a) 0 0 ≡ getD (wordOf c) 0 0
+unfolding plainLine refusedLine slotLine foundLine solvedLine
+first-letter (openWith sig) (refused n) = refl
+first-letter (insert t) (refused n) = refl
+first-letter (delete s) (refused n) = refl
+first-letter (withKey k room) (refused n) = refl
+first-letter (retrieve r q room) (refused n) = refl
+first-letter (solve s q room) (refused n) = refl
+first-letter (openWith sig) (done a b w) = refl
+first-letter (insert t) (done a b w) = refl
+first-letter (delete s) (done a b w) = refl
+first-letter (withKey k room) (done a b w) = refl
+first-letter (retrieve r q room) (done a b w) = refl
+first-letter (solve s q room) (done a b w) = refl
+
+other-letter : (c : Call) → getD (wordOf c) 0 0 ≡ 108 → ⊥
+other-letter (openWith sig) e = omega arith
+other-letter (insert t) e = omega arith
+other-letter (delete s) e = omega arith
+other-letter (withKey k room) e = omega arith
+other-letter (retrieve r q room) e = omega arith
+other-letter (solve s q room) e = omega arith
+
+pub log-line : (l : Line) → textOf l ≡ textOf log → l ≡ log
+log-line log e = refl
+log-line (answer c a) e = absurd (other-letter c (sym (first-letter c a) ∙ ap (λ t. getD t 0 0) (e ∙ log-text)))

@@ -21,7 +21,7 @@ use Rattle.log.specs.Lines.{plainLine, refusedLine, slotLine, foundLine, solved
 unfoldable pub firstCall : ℕ → List ℕ → Option Call
 firstCall tag p = pick (eqb tag 1) (some (openWith p)) none
 
--- '3 delete, two bytes of slot', and 'for 3, not exactly two bytes'
+-- '3 delete, two bytes of slot', and 'for tag 3 one that is not exactly two bytes'
 abbrev pub deleteCall : List ℕ → Option Call
 deleteCall [] = none
 deleteCall (h ∷ []) = none
@@ -39,7 +39,7 @@ solveCall room [] = none
 solveCall room (h ∷ []) = none
 solveCall room (h ∷ l ∷ q) = some (solve (h * 256 + l) q room)
 
--- a field after the first; '2 insert, a term'. An unknown tag is none, and 'a later field that is 1'
+-- a field after the first; '2 insert, a term'. An unknown tag is none, and 'a later field that is tag 1'
 unfoldable pub laterCall : ℕ → ℕ → List ℕ → Option Call
 laterCall room tag p =
     pick (eqb tag 2) (some (insert p))
@@ -74,13 +74,13 @@ abbrev pub lineThen : Store → Option Call → List Line → List Line
 lineThen st none rest = log ∷ []
 lineThen st (some c) rest = answer c (answered st c) ∷ rest
 
--- 'one line per field': the fields after the signature
+-- 'each prints one line': the fields after the signature
 unfoldable pub laterLines : List ℕ → Store → List Field → List Line
 laterLines s st [] = []
 laterLines s st (f ∷ fs) =
     lineThen st (callIn answerRoom false s f) (laterLines s (moved st (callIn answerRoom false s f)) fs)
 
--- 'a refused signature also stops it'
+-- `open no 2`, 'which also stops the program'
 abbrev pub unlessRefused : Store → Option Call → List Line → List Line
 unlessRefused st none rest = []
 unlessRefused st (some c) rest = unless (answered st c) [] rest
@@ -97,7 +97,7 @@ firstLines s (f ∷ fs) =
     (unlessRefused unopened (callIn answerRoom true s f)
     (laterLines s (moved unopened (callIn answerRoom true s f)) fs))
 
--- 'too long an input (as its only line)'
+-- 'for an input of over 65,535 bytes, whatever it holds; `log no 16` is then the only line'
 unfoldable pub linesOf : List ℕ → List Line
 linesOf s = pick (ltb inputLimit (length s)) (log ∷ []) (firstLines s (fieldsOf s))
 

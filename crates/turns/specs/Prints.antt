@@ -1,5 +1,5 @@
 -- SCOPE.md, 'The log program', over a whole input: the turns one after another print just what `printed` says.
-use Prim.Native.Nat.{ℕ, _+_, _-_, _*_, _/_, _≤_, _<_, min}
+use Prim.Native.Nat.{ℕ, zero, suc, _+_, _-_, _*_, _/_, _≤_, _<_, min}
 use mathlib.Core.Path.{_≡_, refl, sym, ap, _∙_}
 use mathlib.Core.Bool.{Bool, true, false}
 use mathlib.Core.Option.{Option, some, none}
@@ -8,7 +8,7 @@ use native.Mathlib.Omega.{arith}
 use native.Mathlib.Decide.{decLt}
 use borrow.Author.Tests.{eqb-true, eqb-false, eq-eqb, ne-eqb, lt-ltb, le-ltb, ltb-false, lt-leb}
 use lib.Dec.{ltb, leb, eqb}
-use lib.ListN.{length, getD, take, drop}
+use lib.ListN.{length, getD, take, drop, replicate, length-replicate}
 use lib.Seq.{sets, length-sets, take-append-seam}
 use Rattle.laws.specs.Choice.{pick}
 use Rattle.laws.specs.Sizes.{inputLimit, answerRoom, lineRoom, keyLimit, slotCount}
@@ -47,7 +47,8 @@ use Rattle.turns.specs.LongestLine.{Lent, field-lent, answer-fits, log-f
 -- buffer before, `text` is all that is shown
 pub data Shown (s : List ℕ) : ℕ → Tables → List ℕ → List ℕ → Type 0 where
   ended : (at : ℕ) (T : Tables) (out : List ℕ) → length s ≤ at → Shown s at T out []
-  turning : (at : ℕ) (T : Tables) (out line₀ : List ℕ) (S : Tables) (out′ line : List ℕ) (length′ next : ℕ) (text : List ℕ)
+  turning : (at : ℕ) (T : Tables) (out line₀ : List ℕ) (S : Tables) (out′ line : List ℕ) (length′ next : ℕ)
+      (text : List ℕ)
       → at < length s → length line₀ ≡ lineRoom → Turned s at T out line₀ S out′ line length′ next
       → Shown s next S out′ text → Shown s at T out (take length′ line ++ text)
 
@@ -159,14 +160,17 @@ fields-none : (s : List ℕ) (at : ℕ) → length s ≤ at → fieldsFrom s at 
 fields-none s at h = next-first s at ∙ (rw (← field-end s at h) (before-end _))
 
 -- a turn goes on, and within the log
-pub next-onward : (s : List ℕ) (at : ℕ) (T : Tables) (out : List ℕ) → at < length s → (at < nextAt s at T out) × (nextAt s at T out ≤ length s)
+pub next-onward : (s : List ℕ) (at : ℕ) (T : Tables) (out : List ℕ) → at < length s
+    → (at < nextAt s at T out) × (nextAt s at T out ≤ length s)
 unfolding placePast
 next-onward s at T out h =
     chosen (λ (n : ℕ). (at < n) × (n ≤ length s)) (stopsAfter (callAt (length out) s at) (madeAt s at T out .refused)) _ _ (λ e. (h, omega arith)) (λ e.
     chosen (λ (n : ℕ). (at < n) × (n ≤ length s)) (ltb inputLimit (length s)) _ _ (λ f. (h, omega arith)) (λ f.
     let w = taken-onward s at (takenAt s at) h refl in (w .on, w .in-log)))
 
-pub turned-onward : (s : List ℕ) (at : ℕ) (T : Tables) (out line₀ : List ℕ) (S : Tables) (out′ line : List ℕ) (n next : ℕ) → Turned s at T out line₀ S out′ line n next → at < length s → (at < next) × (next ≤ length s)
+pub turned-onward : (s : List ℕ) (at : ℕ) (T : Tables) (out line₀ : List ℕ) (S : Tables) (out′ line : List ℕ)
+    (n next : ℕ)
+    → Turned s at T out line₀ S out′ line n next → at < length s → (at < next) × (next ≤ length s)
 turned-onward s at T out line₀ S out′ line n next t h = let w = next-onward s at T out h in (omega (arith, t .place, w .0), omega (arith, t .place, w .1))
 
 -- WHICH CALL the turn makes
@@ -353,10 +357,42 @@ long-prints s at T out text h (ended x U o l) z = absurd (omega arith)
 long-prints s at T out text h (turning x U o line₀ S out′ line n next rest l e t r) z = log-shown s at T out line₀ S out′ line n next rest e t r (no-call s at (length out) h)
 
 -- THE PROGRAM PRINTS `printed` of its input, from any memory that is long enough
-pub prints : (s : List ℕ) (T : Tables) (out text : List ℕ) → ample T ≡ true → length out ≡ answerRoom → Shown s 0 T out text → text ≡ printed s
+pub prints : (s : List ℕ) (T : Tables) (out text : List ℕ) → ample T ≡ true → length out ≡ answerRoom
+    → Shown s 0 T out text → text ≡ printed s
 unfolding printed linesOf
 prints s T out text a room w = go (decLt inputLimit (length s))
   where
     go : Dec (inputLimit < length s) → text ≡ textOfAll (pick (ltb inputLimit (length s)) (log ∷ []) (firstLines s (fieldsOf s)))
     go (yes h) = rw (lt-ltb inputLimit (length s) h) (long-prints s 0 T out text h w refl ∙ sym (only-log))
     go (no h) = rw (le-ltb inputLimit (length s) (omega arith)) (first-prints s (omega arith) 0 T out text w refl a room)
+
+-- EVERY LOG HAS its turns, on all tables and buffers: the program ends
+shown-from : (k : ℕ) (s : List ℕ) (at : ℕ) (T : Tables) (out : List ℕ) → length s - at ≤ k → (text : List ℕ) × Shown s at T out text
+shown-from zero s at T out h = ([], ended at T out (omega arith))
+shown-from (suc k) s at T out h = go (decLt at (length s)) (λ l. shown-from k s (nextAt s at T out) (madeAt s at T out .after) (madeAt s at T out .out) l)
+  where
+    blank : List ℕ
+    blank = replicate lineRoom 0
+
+    n : ℕ
+    n = min (0 + length (lineAt s at T out)) (length blank)
+
+    go : Dec (at < length s) → (length s - nextAt s at T out ≤ k → (text : List ℕ) × Shown s (nextAt s at T out) (madeAt s at T out .after) (madeAt s at T out .out) text)
+        → (text : List ℕ) × Shown s at T out text
+    go (no l) again = ([], ended at T out (omega arith))
+    go (yes l) again =
+        let w = next-onward s at T out l in
+        let r = again (omega (arith, w .0)) in (
+          take n (sets blank 0 (lineAt s at T out)) ++ r .0,
+          turning at T out blank (madeAt s at T out .after) (madeAt s at T out .out) (sets blank 0 (lineAt s at T out)) n (nextAt s at T out) (r .0) l (length-replicate {A = ℕ} lineRoom 0)
+              (record { tables = refl; buffer = refl; text = record { line-is = refl; next-is = refl }; place = refl })
+              (r .1),
+        )
+
+pub every-log : (s : List ℕ) (T : Tables) (out : List ℕ) → (text : List ℕ) × Shown s 0 T out text
+every-log s T out = shown-from (length s) s 0 T out (omega arith)
+
+-- too long an input is read up to one byte over the limit, and prints what it would print whole
+pub long-alike : (s t : List ℕ) → inputLimit < length s → inputLimit < length t → printed s ≡ printed t
+unfolding printed linesOf
+long-alike s t h g = rw (lt-ltb inputLimit (length s) h, lt-ltb inputLimit (length t) g) refl
