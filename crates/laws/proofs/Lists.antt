@@ -50,3 +50,24 @@ front-start out (v ∷ vs) = refl
 pub sets-start : (out : List ℕ) (at : ℕ) (vs : List ℕ) → out ≡ sets out at (take 0 vs)
 sets-start out at [] = refl
 sets-start out at (v ∷ vs) = refl
+
+-- the rest of a part is a part
+part-tail : (s : List ℕ) (k n : ℕ) → k ≤ n → take (n - k) (drop k s) ≡ drop k (take n s)
+part-tail s zero n h = let e : n - 0 ≡ n = omega arith in rw e
+part-tail [] (suc k) zero h = absurd (omega arith)
+part-tail [] (suc k) (suc n) h = let e : (suc n) - (suc k) ≡ n - k = omega arith in rw e (go (n - k))
+  where
+    go : (m : ℕ) → _≡_ {A = List ℕ} (take m []) []
+    go zero = refl
+    go (suc m) = refl
+part-tail (x ∷ s) (suc k) zero h = absurd (omega arith)
+part-tail (x ∷ s) (suc k) (suc n) h = let e : (suc n) - (suc k) ≡ n - k = omega arith in rw e (part-tail s k n (omega arith))
+
+drop-twice : (s : List ℕ) (i k : ℕ) → drop (i + k) s ≡ drop k (drop i s)
+drop-twice s zero k = let e : 0 + k ≡ k = omega arith in rw e
+drop-twice [] (suc i) zero = let e : (suc i) + 0 ≡ suc i = omega arith in rw e
+drop-twice [] (suc i) (suc k) = let e : (suc i) + (suc k) ≡ suc (i + suc k) = omega arith in rw e
+drop-twice (x ∷ s) (suc i) k = let e : (suc i) + k ≡ suc (i + k) = omega arith in rw e (drop-twice s i k)
+
+pub part-rest : (s : List ℕ) (start k n : ℕ) → k ≤ n → take (n - k) (drop (start + k) s) ≡ drop k (take n (drop start s))
+part-rest s start k n h = rw (drop-twice s start k) (part-tail (drop start s) k n h)

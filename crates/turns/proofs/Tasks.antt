@@ -1,5 +1,5 @@
 -- Laws of the order that a field's bytes give: each way out of the functions of src/order.rt is the call of Printed.
-use Prim.Native.Nat.{ℕ, zero, suc, _+_, _-_, _*_, _≤_, _<_}
+use Prim.Native.Nat.{ℕ, _+_, _-_, _*_, _≤_, _<_}
 use mathlib.Core.Path.{_≡_, refl, sym, ap, _∙_}
 use mathlib.Core.Bool.{Bool, true, false}
 use mathlib.Core.Option.{Option, some, none}
@@ -10,6 +10,7 @@ use lib.Dec.{ltb, eqb}
 use lib.ListN.{length, getD, take, drop, length-drop}
 use lib.Seq.{length-take-le}
 use Rattle.laws.specs.Choice.{pick}
+use Rattle.laws.proofs.Lists.{part-rest}
 use Rattle.laws.specs.Sizes.{inputLimit}
 use Rattle.library.specs.Store.{Call}
 use Rattle.log.specs.declared.field.Field.{Field}
@@ -22,27 +23,6 @@ use Rattle.orders.specs.declared.Order.{Order}
 use Rattle.orders.specs.declared.Order.the-variants.{Open, Insert, Delete, WithKey, Retrieve, Solve, Nothing}
 use Rattle.turns.specs.Printed.{firstCall, laterCall, deleteCall, retrieveCall, solveCall, payload, callIn}
 use Rattle.turns.specs.Turns.{fixedPart, callOf, Ordered, callAt, placePast}
-
--- the rest of a part is a part
-part-tail : (s : List ℕ) (k n : ℕ) → k ≤ n → take (n - k) (drop k s) ≡ drop k (take n s)
-part-tail s zero n h = let e : n - 0 ≡ n = omega arith in rw e
-part-tail [] (suc k) zero h = absurd (omega arith)
-part-tail [] (suc k) (suc n) h = let e : (suc n) - (suc k) ≡ n - k = omega arith in rw e (go (n - k))
-  where
-    go : (m : ℕ) → _≡_ {A = List ℕ} (take m []) []
-    go zero = refl
-    go (suc m) = refl
-part-tail (x ∷ s) (suc k) zero h = absurd (omega arith)
-part-tail (x ∷ s) (suc k) (suc n) h = let e : (suc n) - (suc k) ≡ n - k = omega arith in rw e (part-tail s k n (omega arith))
-
-drop-twice : (s : List ℕ) (i k : ℕ) → drop (i + k) s ≡ drop k (drop i s)
-drop-twice s zero k = let e : 0 + k ≡ k = omega arith in rw e
-drop-twice [] (suc i) zero = let e : (suc i) + 0 ≡ suc i = omega arith in rw e
-drop-twice [] (suc i) (suc k) = let e : (suc i) + (suc k) ≡ suc (i + suc k) = omega arith in rw e
-drop-twice (x ∷ s) (suc i) k = let e : (suc i) + k ≡ suc (i + k) = omega arith in rw e (drop-twice s i k)
-
-part-rest : (s : List ℕ) (start k n : ℕ) → k ≤ n → take (n - k) (drop (start + k) s) ≡ drop k (take n (drop start s))
-part-rest s start k n h = rw (drop-twice s start k) (part-tail (drop start s) k n h)
 
 none-of : (room : ℕ) (p : List ℕ) (c : Option Call) → none ≡ c → Ordered room Nothing p c
 none-of room p c e = record { fixed = omega arith; call = e }

@@ -2,7 +2,6 @@ pub mod Printed
 pub mod Turns
 pub mod Spoken
 pub mod Example
-pub mod Chosen
 pub mod LongestLine
 pub mod LogApplies
 pub mod EachField

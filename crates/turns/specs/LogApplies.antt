@@ -11,7 +11,7 @@ use mathlib.Core.List.{List, [], _∷_, _++_}
 use lib.Dec.{ltb, eqb}
 use lib.ListN.{length, getD, drop, length-take, length-drop}
 use borrow.Author.Tests.{lt-ltb, ltb-true, ltb-false, eqb-true, eqb-false}
-use Rattle.laws.specs.Choice.{pick}
+use Rattle.laws.specs.Choice.{pick, chosen}
 use Rattle.laws.specs.Members.{In}
 use Rattle.laws.specs.Sizes.{inputLimit, answerRoom}
 use Rattle.terms.specs.Terms.{sigRefusal}
@@ -23,7 +23,6 @@ use Rattle.log.specs.Reading.{placeAfter, before, fieldsWithin, fieldsFrom, fie
 use Rattle.log.specs.declared.field.Field.{Field}
 use Rattle.log.specs.declared.field.Field.the-variants.{End, Cut, Whole}
 use Rattle.log.proofs.Fields.{field-inside}
-use Rattle.turns.specs.Chosen.{chosen}
 use Rattle.turns.specs.Printed.{Line, answer, log, firstCall, deleteCall, retrieveCall, solveCall, laterCall, payload, callIn, moved, lineThen, laterLines, unlessRefused, unopened, firstLines, linesOf, textOf, wordOf, answerText}
 
 -- a whole field, number i of its log, with this tag and a payload of n bytes, that LOG is printed for

@@ -11,7 +11,7 @@ use mathlib.Core.List.{List, [], _∷_, _++_}
 use lib.Dec.{ltb, eqb}
 use lib.ListN.{length, length-append}
 use borrow.Author.Tests.{ltb-false}
-use Rattle.laws.specs.Choice.{pick}
+use Rattle.laws.specs.Choice.{pick, chosen}
 use Rattle.laws.specs.Members.{In}
 use Rattle.laws.specs.Sizes.{slotCount, inputLimit, answerRoom, lineRoom, keyLimit}
 use Rattle.slots.specs.Slots.{listed}
@@ -32,7 +32,6 @@ use Rattle.log.specs.declared.field.Field.{Field}
 use Rattle.log.specs.declared.field.Field.the-variants.{End, Cut, Whole}
 use Rattle.log.specs.Reading.{fieldsOf}
 use Rattle.log.proofs.LogLaws.{decimal-one, decimal-more}
-use Rattle.turns.specs.Chosen.{chosen}
 use Rattle.turns.specs.Printed.{Line, log, firstCall, deleteCall, retrieveCall, solveCall, laterCall, payload, callIn, moved, lineThen, laterLines, unlessRefused, unopened, firstLines, linesOf, wordOf, logWord, answerText, textOf}
 
 -- NUMBERS below 1,000 have at most three digits

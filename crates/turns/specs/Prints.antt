@@ -10,7 +10,7 @@ use borrow.Author.Tests.{eqb-true, eqb-false, eq-eqb, ne-eqb, lt-ltb, le-ltb, lt
 use lib.Dec.{ltb, leb, eqb}
 use lib.ListN.{length, getD, take, drop, replicate, length-replicate}
 use lib.Seq.{sets, length-sets, take-append-seam}
-use Rattle.laws.specs.Choice.{pick}
+use Rattle.laws.specs.Choice.{pick, chosen}
 use Rattle.laws.specs.Sizes.{inputLimit, answerRoom, lineRoom, keyLimit, slotCount}
 use Rattle.slots.specs.Slots.{listed}
 use Rattle.slots.proofs.Listing.{length-listed}
@@ -37,7 +37,6 @@ use Rattle.log.specs.Reading.{placeAfter, takenAt, before, fieldsFrom, fieldsOf
 use Rattle.log.specs.Lines.{Put, refusedLine, plainLine}
 use Rattle.log.proofs.Fields.{field-end, taken-onward}
 use Rattle.log.proofs.Reading.{next-first}
-use Rattle.turns.specs.Chosen.{chosen}
 use Rattle.turns.specs.Printed.{firstCall, deleteCall, retrieveCall, solveCall, laterCall, payload, callIn, Line, answer, log, moved, lineThen, laterLines, unlessRefused, unopened, firstLines, linesOf, wordOf, logWord, doneText, answerText, textOf, textOfAll, printed}
 use Rattle.turns.specs.Turns.{callAt, placePast, resultOf, toldBytes, lineOf, stopsAfter, madeAt, lineAt, nextAt, Turned}
 use Rattle.turns.specs.LongestLine.{Lent, field-lent, answer-fits, log-fits}
