@@ -5,33 +5,41 @@ use laws::ANSWER;
 use laws::low;
 use laws::wide;
 use orders::Order;
-ghost use Prim.Native.Nat.{_≤_, _<_};
-ghost use lib.ListN.{length};
+ghost use mathlib.Core.Path.{_≡_};
+ghost use Prim.Native.Nat.{_≤_, _<_, min};
 ghost use Rattle.laws.specs.Sizes.{answerRoom};
+ghost use Rattle.log.specs.Lines.{Put};
+ghost use Rattle.cases.specs.Said.{orderOf, checksumOf, shortLine, listedLine, argumentLine, writtenBy, answerLine, doneLine, refusalLine, said};
 
 // The call that a case's word asks for.
-pub fn order_of(case: Case) -> Order {
+pub fn order_of(case: Case) -> Order
+    ensures { λ r. ⌜ r ≡ orderOf (case .word) (case .number) ⌝ }
+{
     let word = case.word;
+    let n = case.number;
     match word {
         b'o' => Order::Open,
-        b'i' | b'g' => Order::Insert,
-        b'd' => Order::Delete(case.number),
+        b'i' => Order::Insert,
+        b'g' => Order::Insert,
+        b'd' => Order::Delete(n),
         b'k' => Order::WithKey,
-        b'r' | b'n' => Order::Retrieve(case.number),
-        b's' | b'm' => Order::Solve(case.number),
+        b'r' => Order::Retrieve(n),
+        b'n' => Order::Retrieve(n),
+        b's' => Order::Solve(n),
+        b'm' => Order::Solve(n),
         _ => Order::Nothing,
     }
 }
 
 fn least(a: usize, b: usize) -> usize
-    ensures { λ r. ⌜ (r ≤ a) × (r ≤ b) ⌝ }
+    ensures { λ r. ⌜ r ≡ min a b ⌝ }
 {
     if a < b { a } else { b }
 }
 
 // A number that depends on each byte and its place.
 fn checksum(bytes: &[u8]) -> usize
-    ensures { λ r. ⌜ r < 65521 ⌝ }
+    ensures { λ r. ⌜ (r ≡ checksumOf (now (bytes .entry))) × (r < 65521) ⌝ }
 {
     let mut sum: usize = 0;
     let mut i: usize = 0;
@@ -43,14 +51,20 @@ fn checksum(bytes: &[u8]) -> usize
 }
 
 // Two numbers and the checksum of some bytes, for answers too long to print.
-fn short_line(line: &mut [u8], head: &[u8], a: usize, b: usize, bytes: &[u8]) -> usize {
+fn short_line(line: &mut [u8], head: &[u8], a: usize, b: usize, bytes: &[u8]) -> usize
+    ensures { λ r. ⌜ Put (now (line .entry)) (now (line .exit)) 0
+        (shortLine (now (head .entry)) a b (now (bytes .entry))) r ⌝ }
+{
     let sum = checksum(bytes);
     let two = [low(sum / 256), low(sum % 256)];
     log::found_line(line, head, a, b, &two)
 }
 
 // The number of slots of a listing, and the slots.
-fn listed_line(line: &mut [u8], head: &[u8], slots: usize, listing: &[u8]) -> usize {
+fn listed_line(line: &mut [u8], head: &[u8], slots: usize, listing: &[u8]) -> usize
+    ensures { λ r. ⌜ Put (now (line .entry)) (now (line .exit)) 0
+        (listedLine (now (head .entry)) slots (now (listing .entry))) r ⌝ }
+{
     let x = log::put_bytes(line, 0, head);
     let y = log::put_bytes(line, x, b" ok");
     let z = log::put_figure(line, y, slots);
@@ -59,7 +73,10 @@ fn listed_line(line: &mut [u8], head: &[u8], slots: usize, listing: &[u8]) -> us
 }
 
 // Argument i of a term over the signature of P1 to P12: how many bytes it has, and its bytes.
-fn say_argument(i: usize, term: &[u8], head: &[u8], line: &mut [u8]) -> usize {
+fn say_argument(i: usize, term: &[u8], head: &[u8], line: &mut [u8]) -> usize
+    ensures { λ r. ⌜ Put (now (line .entry)) (now (line .exit)) 0
+        (argumentLine (now (head .entry)) (now (term .entry)) i) r ⌝ }
+{
     let sig = [0u8, 0, 2, 1];
     let refused = terms::argument_refusal(&sig, term, i);
     if refused != 0 {
@@ -71,13 +88,16 @@ fn say_argument(i: usize, term: &[u8], head: &[u8], line: &mut [u8]) -> usize {
 
 // How many bytes of the answer buffer an answer has: two a slot of a listing, or a record.
 fn written(order: Order, first: usize, second: usize) -> usize
-    ensures { λ r. ⌜ r ≤ answerRoom ⌝ }
+    ensures { λ r. ⌜ (r ≡ writtenBy order first second) × (r ≤ answerRoom) ⌝ }
 {
     match order {
         Order::WithKey => least(first, ANSWER / 2) * 2,
         Order::Retrieve(_) => least(second, ANSWER / 2) * 2,
         Order::Solve(_) => least(second, ANSWER),
-        _ => 0,
+        Order::Open => 0,
+        Order::Insert => 0,
+        Order::Delete(_) => 0,
+        Order::Nothing => 0,
     }
 }
 
@@ -89,13 +109,17 @@ fn say_bytes(
     head: &[u8],
     bytes: &[u8],
     line: &mut [u8],
-) -> usize {
+) -> usize
+    ensures { λ r. ⌜ Put (now (line .entry)) (now (line .exit)) 0
+        (answerLine word (now (head .entry)) first second (now (bytes .entry))) r ⌝ }
+{
     match word {
         b'o' => log::plain_line(line, head),
         b'k' => listed_line(line, head, first, bytes),
         b'r' => log::found_line(line, head, first, second, bytes),
         b's' => log::solved_line(line, head, first, bytes),
-        b'n' | b'm' => short_line(line, head, first, second, bytes),
+        b'n' => short_line(line, head, first, second, bytes),
+        b'm' => short_line(line, head, first, second, bytes),
         _ => log::slot_line(line, head, first),
     }
 }
@@ -107,14 +131,20 @@ fn say_done(
     head: &[u8],
     out: &[u8; ANSWER],
     line: &mut [u8],
-) -> usize {
+) -> usize
+    ensures { λ r. ⌜ Put (now (line .entry)) (now (line .exit)) 0
+        (doneLine case (now (head .entry)) first second (now (out .entry))) r ⌝ }
+{
     let n = written(order_of(case), first, second);
     let answer = &out[..];
     say_bytes(case.word, first, second, head, &answer[..n], line)
 }
 
 // LOG says that the word is no call: `argument`, or one that says nothing.
-fn say_refused(case: Case, number: u8, head: &[u8], given: &[u8], line: &mut [u8]) -> usize {
+fn say_refused(case: Case, number: u8, head: &[u8], given: &[u8], line: &mut [u8]) -> usize
+    ensures { λ r. ⌜ Put (now (line .entry)) (now (line .exit)) 0
+        (refusalLine case (now (head .entry)) number (now (given .entry))) r ⌝ }
+{
     if number != 16 {
         return log::refused_line(line, head, number);
     }
@@ -132,7 +162,10 @@ pub fn say(
     given: &[u8],
     out: &[u8; ANSWER],
     line: &mut [u8],
-) -> usize {
+) -> usize
+    ensures { λ r. ⌜ Put (now (line .entry)) (now (line .exit)) 0
+        (said case reply (now (head .entry)) (now (given .entry)) (now (out .entry))) r ⌝ }
+{
     match reply {
         Reply::Done(first, second) => say_done(case, first, second, head, out, line),
         Reply::Refused(why) => say_refused(case, why.number(), head, given, line),
