@@ -1,1 +1,3 @@
 pub mod Saying
+pub mod Lending
+pub mod Reading

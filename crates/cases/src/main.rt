@@ -23,9 +23,13 @@ use say::order_of;
 use say::say;
 use text::Case;
 use text::case_at;
+ghost use mathlib.Core.Path.{_≡_};
 ghost use Prim.Native.Nat.{_+_, _*_, _≤_, _<_};
 ghost use lib.ListN.{length};
 ghost use Rattle.laws.specs.Sizes.{answerRoom};
+ghost use Rattle.layout.specs.Tables.{held};
+ghost use Rattle.calls.specs.Outcome.{outcome};
+ghost use Rattle.cases.specs.Lent.{lentLength, caseOutcome, roomAfter, placeAfter};
 
 // The line, how many calls of its case are done, the length of the answer buffer, and the table that is lent too short.
 struct Place {
@@ -36,7 +40,7 @@ struct Place {
 }
 
 fn start() -> Place
-    ensures { λ r. ⌜ (r .round < 16777216) × (r .room ≤ answerRoom) ⌝ }
+    ensures { λ r. ⌜ (r .at ≡ 0) × (r .round ≡ 0) × (r .room ≡ answerRoom) × (r .short ≡ 8) ⌝ }
 {
     Place {
         at: 0,
@@ -48,7 +52,7 @@ fn start() -> Place
 
 // The length of a table, or one less if it is the one that is too short.
 fn cut(n: usize, table: usize, short: usize) -> usize
-    ensures { λ r. ⌜ r ≤ n ⌝ }
+    ensures { λ r. ⌜ (r ≡ lentLength short table n) × (r ≤ n) ⌝ }
 {
     if table != short {
         return n;
@@ -72,6 +76,12 @@ fn lend(
     out: &mut [u8],
 ) -> Reply
     requires { ⌜ (case .length ≤ 512) × (place .room ≤ length (now out)) ⌝ }
+    ensures { λ r. ⌜ outcome r
+        (held (now (bytes .exit)) (now (used .exit)) (now (label .exit)) (now (link .exit))
+        (now (s0 .exit)) (now (s1 .exit)) (now (s2 .exit)) (now (s3 .exit))) (now (out .exit))
+        ≡ caseOutcome case place (now (given .entry))
+        (held (now (bytes .entry)) (now (used .entry)) (now (label .entry)) (now (link .entry))
+        (now (s0 .entry)) (now (s1 .entry)) (now (s2 .entry)) (now (s3 .entry))) (now (out .entry)) ⌝ }
 {
     let n = case.length;
     let room = place.room;
@@ -124,7 +134,7 @@ fn finish(case: Case, reply: Reply, head: &[u8], given: &[u8; 512], out: &[u8; A
 // The room that a case sets, as far as there is any.
 fn room_after(case: Case, room: usize) -> usize
     requires { ⌜ room ≤ answerRoom ⌝ }
-    ensures { λ r. ⌜ r ≤ answerRoom ⌝ }
+    ensures { λ r. ⌜ (r ≡ roomAfter case room) × (r ≤ answerRoom) ⌝ }
 {
     if case.word != b'b' {
         return room;
@@ -139,7 +149,7 @@ fn room_after(case: Case, room: usize) -> usize
 // After a call: the same line where more calls are left, or else the next one.
 fn place_after(case: Case, place: Place) -> Place
     requires { ⌜ (place .at < case .next) × (case .left + place .round < 16777216) × (place .room ≤ answerRoom) ⌝ }
-    ensures { λ r. ⌜ (r .round < 16777216) × (r .room ≤ answerRoom)
+    ensures { λ r. ⌜ (r ≡ placeAfter case place) × (r .round < 16777216) × (r .room ≤ answerRoom)
         × (place .at * 16777216 + place .round < r .at * 16777216 + r .round) ⌝ }
 {
     if 0 < case.left {

@@ -1,8 +1,12 @@
 // The text of the cases: one case a line, of four words with single blanks between them.
 use laws::low;
 use laws::wide;
-ghost use Prim.Native.Nat.{_+_, _≤_, _<_};
-ghost use lib.ListN.{length};
+ghost use mathlib.Core.Path.{_≡_};
+ghost use Prim.Native.Nat.{_+_, _≤_, _<_, min};
+ghost use lib.ListN.{length, getD};
+ghost use lib.Dec.{eqb};
+ghost use Rattle.laws.specs.Choice.{pick};
+ghost use Rattle.cases.specs.CaseText.{wordEnd, pastBlank, nextLine, numberIn, digitOf, hexAt, HexRead, grown, lengthOf, repeating, leftAfter, caseAt, BytesRead};
 
 // The first letter of the second word, the third word as a number, where it ends, how many bytes the fourth word has,
 // how many calls are left after this one, and the next line.
@@ -16,14 +20,16 @@ pub struct Case {
 }
 
 // The byte at a place, 0 past the end.
-fn byte_at(text: &[u8], at: usize) -> u8 {
+fn byte_at(text: &[u8], at: usize) -> u8
+    ensures { λ r. ⌜ r ≡ getD (now (text .entry)) at 0 ⌝ }
+{
     if at < text.len() { text[at] } else { 0 }
 }
 
 // Where the word at a place ends, at a blank or a line feed.
 fn word_end(text: &[u8], at: usize) -> usize
     requires { ⌜ at ≤ length (now text) ⌝ }
-    ensures { λ r. ⌜ (at ≤ r) × (r ≤ length (now (text .entry))) ⌝ }
+    ensures { λ r. ⌜ (r ≡ wordEnd (now (text .entry)) at) × (at ≤ r) × (r ≤ length (now (text .entry))) ⌝ }
 {
     let mut i = at;
     while i < text.len() {
@@ -38,7 +44,7 @@ fn word_end(text: &[u8], at: usize) -> usize
 // Past one blank, if there is one.
 fn past_blank(text: &[u8], at: usize) -> usize
     requires { ⌜ at ≤ length (now text) ⌝ }
-    ensures { λ r. ⌜ (at ≤ r) × (r ≤ length (now (text .entry))) ⌝ }
+    ensures { λ r. ⌜ (r ≡ pastBlank (now (text .entry)) at) × (at ≤ r) × (r ≤ length (now (text .entry))) ⌝ }
 {
     if at < text.len() {
         if text[at] == b' ' {
@@ -51,7 +57,7 @@ fn past_blank(text: &[u8], at: usize) -> usize
 // Past the next line feed, or the end.
 fn next_line(text: &[u8], at: usize) -> usize
     requires { ⌜ at < length (now text) ⌝ }
-    ensures { λ r. ⌜ (at < r) × (r ≤ length (now (text .entry))) ⌝ }
+    ensures { λ r. ⌜ (r ≡ nextLine (now (text .entry)) at) × (at < r) × (r ≤ length (now (text .entry))) ⌝ }
 {
     let mut i = at;
     while i < text.len() {
@@ -66,7 +72,7 @@ fn next_line(text: &[u8], at: usize) -> usize
 // A number in decimal, its last six digits at least.
 fn number(text: &[u8], from: usize, to: usize) -> usize
     requires { ⌜ to ≤ length (now text) ⌝ }
-    ensures { λ r. ⌜ r < 10000016 ⌝ }
+    ensures { λ r. ⌜ (r ≡ numberIn (now (text .entry)) from to) × (r < 10000016) ⌝ }
 {
     let mut n: usize = 0;
     let mut i = from;
@@ -79,7 +85,7 @@ fn number(text: &[u8], from: usize, to: usize) -> usize
 
 // The value of a hex digit.
 fn nibble(b: u8) -> usize
-    ensures { λ r. ⌜ r < 16 ⌝ }
+    ensures { λ r. ⌜ (r ≡ digitOf b) × (r < 16) ⌝ }
 {
     let x = wide(b);
     if x < 58 { x % 16 } else { (x + 9) % 16 }
@@ -88,6 +94,7 @@ fn nibble(b: u8) -> usize
 // The byte of two hex digits at a place, 0 where the text ends before them.
 fn hex_at(text: &[u8], at: usize, to: usize) -> u8
     requires { ⌜ to ≤ length (now text) ⌝ }
+    ensures { λ r. ⌜ r ≡ hexAt (now (text .entry)) at to ⌝ }
 {
     if to <= at {
         return 0;
@@ -100,7 +107,9 @@ fn hex_at(text: &[u8], at: usize, to: usize) -> u8
 
 // Reads hex into the lent bytes, zeros after it.
 fn read_hex(text: &[u8], from: usize, to: usize, given: &mut [u8; 512])
-    requires { ⌜ (from ≤ length (now text)) × (to ≤ length (now text)) ⌝ }
+    requires { ⌜ (from ≤ length (now text)) × (to ≤ length (now text)) × (length (now given) ≡ 512) ⌝ }
+    ensures { λ _. ⌜ HexRead 512 (now (text .entry)) from to (now (given .exit))
+        × (length (now (given .exit)) ≡ 512) ⌝ }
 {
     let mut i: usize = 0;
     while i < 512 {
@@ -110,24 +119,38 @@ fn read_hex(text: &[u8], from: usize, to: usize, given: &mut [u8; 512])
 }
 
 // `grow` adds one each time to the second byte, round past 255.
-fn grow(word: u8, round: usize, given: &mut [u8; 512]) {
-    if word == b'g' {
-        given[1] = std::num::wrapping_add_u8(given[1], low(round % 256));
+fn grow(word: u8, round: usize, given: &mut [u8; 512])
+    ensures { λ _. ⌜ now (given .exit) ≡ grown word round (now (given .entry)) ⌝ }
+{
+    if word != b'g' {
+        return;
     }
+    given[1] = std::num::wrapping_add_u8(given[1], low(round % 256));
+}
+
+fn at_most_512(n: usize) -> usize
+    ensures { λ r. ⌜ r ≡ min n 512 ⌝ }
+{
+    if n <= 512 { n } else { 512 }
 }
 
 // How many bytes a case has: for an opening as many as its number says.
 fn length_of(word: u8, number: usize, digits: usize) -> usize
-    ensures { λ r. ⌜ r ≤ 512 ⌝ }
+    ensures { λ r. ⌜ (r ≡ lengthOf word number digits) × (r ≤ 512) ⌝ }
 {
-    let n = if word == b'o' { number } else { digits / 2 };
-    if n <= 512 { n } else { 512 }
+    if word == b'o' {
+        return at_most_512(number);
+    }
+    at_most_512(digits / 2)
 }
 
 // Does a word make as many calls as its number says.
-fn repeats(word: u8) -> bool {
+fn repeats(word: u8) -> bool
+    ensures { λ r. ⌜ r ≡ repeating word ⌝ }
+{
     match word {
-        b'i' | b'g' => true,
+        b'i' => true,
+        b'g' => true,
         _ => false,
     }
 }
@@ -135,7 +158,7 @@ fn repeats(word: u8) -> bool {
 // How many calls are left after this one, the calls before it given; there is one at least.
 fn left_after(word: u8, number: usize, round: usize) -> usize
     requires { ⌜ (number < 16777216) × (round < 16777216) ⌝ }
-    ensures { λ r. ⌜ r + round < 16777216 ⌝ }
+    ensures { λ r. ⌜ (r ≡ leftAfter word number round) × (r + round < 16777216) ⌝ }
 {
     if !repeats(word) {
         return 0;
@@ -146,10 +169,23 @@ fn left_after(word: u8, number: usize, round: usize) -> usize
     number - round - 1
 }
 
+// The first letter of the second word, or 0 of a line that starts with #.
+fn word_at(text: &[u8], at: usize, second: usize) -> u8
+    requires { ⌜ at < length (now text) ⌝ }
+    ensures { λ r. ⌜ r ≡ pick (eqb (getD (now (text .entry)) at 0) 35) 0 (getD (now (text .entry)) second 0) ⌝ }
+{
+    if text[at] == b'#' {
+        return 0;
+    }
+    byte_at(text, second)
+}
+
 // The case of the line at a place, its bytes in the lent ones; a line that starts with # has the word 0.
 pub fn case_at(text: &[u8], at: usize, round: usize, given: &mut [u8; 512]) -> Case
-    requires { ⌜ (at < length (now text)) × (round < 16777216) ⌝ }
-    ensures { λ r. ⌜ (at ≤ r .shown) × (r .shown ≤ length (now (text .entry))) × (r .length ≤ 512) × (at < r .next)
+    requires { ⌜ (at < length (now text)) × (round < 16777216) × (length (now given) ≡ 512) ⌝ }
+    ensures { λ r. ⌜ (r ≡ caseAt (now (text .entry)) at round)
+        × BytesRead (now (text .entry)) at round (now (given .exit)) × (length (now (given .exit)) ≡ 512)
+        × (at ≤ r .shown) × (r .shown ≤ length (now (text .entry))) × (r .length ≤ 512) × (at < r .next)
         × (r .left + round < 16777216) ⌝ }
 {
     let second = past_blank(text, word_end(text, at));
@@ -157,11 +193,7 @@ pub fn case_at(text: &[u8], at: usize, round: usize, given: &mut [u8; 512]) -> C
     let shown = word_end(text, third);
     let from = past_blank(text, shown);
     let to = word_end(text, from);
-    let word = if text[at] == b'#' {
-        0
-    } else {
-        byte_at(text, second)
-    };
+    let word = word_at(text, at, second);
     let n = number(text, third, shown);
     read_hex(text, from, to, given);
     grow(word, round, given);

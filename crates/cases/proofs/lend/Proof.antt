@@ -1,3 +1,5 @@
+use Rattle.cases.proofs.Lending.{lend-made}
+use Rattle.layout.specs.Tables.{held}
 use lib.Seq.{length-take-le, length-front}
 use mathlib.Core.Path.{sym}
 use native.Mathlib.Omega.{arith}
@@ -35,52 +37,52 @@ slice-aggregate-call : tie.Need-slice-aggregate-call
 slice-aggregate-call c = sym (length-take-le _ _ (omega (arith, (c .before .before .before .before .before .before .before .before .before .before .before .before .before .before .before .before .before .before .before .before) .pre .0)))
 
 slice-relend-prefix-call : tie.Need-slice-relend-prefix-call
-slice-relend-prefix-call c = (c .before .before .before .before .before .before .before .before .before .cut) .ensures
+slice-relend-prefix-call c = (c .before .before .before .before .before .before .before .before .before .cut) .ensures .1
 
 slice-aggregate-call-2 : tie.Need-slice-aggregate-call-2
-slice-aggregate-call-2 c = sym (length-take-le _ _ ((c .before .before .before .before .before .before .before .before .before .before .cut) .ensures))
+slice-aggregate-call-2 c = sym (length-take-le _ _ ((c .before .before .before .before .before .before .before .before .before .before .cut) .ensures .1))
 
 slice-relend-prefix-call-2 : tie.Need-slice-relend-prefix-call-2
-slice-relend-prefix-call-2 c = (c .before .before .before .before .before .before .before .before .before .cut2) .ensures
+slice-relend-prefix-call-2 c = (c .before .before .before .before .before .before .before .before .before .cut2) .ensures .1
 
 slice-aggregate-call-3 : tie.Need-slice-aggregate-call-3
-slice-aggregate-call-3 c = sym (length-take-le _ _ ((c .before .before .before .before .before .before .before .before .before .before .cut2) .ensures))
+slice-aggregate-call-3 c = sym (length-take-le _ _ ((c .before .before .before .before .before .before .before .before .before .before .cut2) .ensures .1))
 
 slice-relend-prefix-call-3 : tie.Need-slice-relend-prefix-call-3
-slice-relend-prefix-call-3 c = (c .before .before .before .before .before .before .before .before .before .cut3) .ensures
+slice-relend-prefix-call-3 c = (c .before .before .before .before .before .before .before .before .before .cut3) .ensures .1
 
 slice-aggregate-call-4 : tie.Need-slice-aggregate-call-4
-slice-aggregate-call-4 c = sym (length-take-le _ _ ((c .before .before .before .before .before .before .before .before .before .before .cut3) .ensures))
+slice-aggregate-call-4 c = sym (length-take-le _ _ ((c .before .before .before .before .before .before .before .before .before .before .cut3) .ensures .1))
 
 slice-relend-prefix-call-4 : tie.Need-slice-relend-prefix-call-4
-slice-relend-prefix-call-4 c = (c .before .before .before .before .before .before .before .before .before .cut4) .ensures
+slice-relend-prefix-call-4 c = (c .before .before .before .before .before .before .before .before .before .cut4) .ensures .1
 
 slice-aggregate-call-5 : tie.Need-slice-aggregate-call-5
-slice-aggregate-call-5 c = sym (length-take-le _ _ ((c .before .before .before .before .before .before .before .before .before .before .cut4) .ensures))
+slice-aggregate-call-5 c = sym (length-take-le _ _ ((c .before .before .before .before .before .before .before .before .before .before .cut4) .ensures .1))
 
 slice-relend-prefix-call-5 : tie.Need-slice-relend-prefix-call-5
-slice-relend-prefix-call-5 c = (c .before .before .before .before .before .before .before .before .before .cut5) .ensures
+slice-relend-prefix-call-5 c = (c .before .before .before .before .before .before .before .before .before .cut5) .ensures .1
 
 slice-aggregate-call-6 : tie.Need-slice-aggregate-call-6
-slice-aggregate-call-6 c = sym (length-take-le _ _ ((c .before .before .before .before .before .before .before .before .before .before .cut5) .ensures))
+slice-aggregate-call-6 c = sym (length-take-le _ _ ((c .before .before .before .before .before .before .before .before .before .before .cut5) .ensures .1))
 
 slice-relend-prefix-call-6 : tie.Need-slice-relend-prefix-call-6
-slice-relend-prefix-call-6 c = (c .before .before .before .before .before .before .before .before .before .cut6) .ensures
+slice-relend-prefix-call-6 c = (c .before .before .before .before .before .before .before .before .before .cut6) .ensures .1
 
 slice-aggregate-call-7 : tie.Need-slice-aggregate-call-7
-slice-aggregate-call-7 c = sym (length-take-le _ _ ((c .before .before .before .before .before .before .before .before .before .before .cut6) .ensures))
+slice-aggregate-call-7 c = sym (length-take-le _ _ ((c .before .before .before .before .before .before .before .before .before .before .cut6) .ensures .1))
 
 slice-relend-prefix-call-7 : tie.Need-slice-relend-prefix-call-7
-slice-relend-prefix-call-7 c = (c .before .before .before .before .before .before .before .before .before .cut7) .ensures
+slice-relend-prefix-call-7 c = (c .before .before .before .before .before .before .before .before .before .cut7) .ensures .1
 
 slice-aggregate-call-8 : tie.Need-slice-aggregate-call-8
-slice-aggregate-call-8 c = sym (length-take-le _ _ ((c .before .before .before .before .before .before .before .before .before .before .cut7) .ensures))
+slice-aggregate-call-8 c = sym (length-take-le _ _ ((c .before .before .before .before .before .before .before .before .before .before .cut7) .ensures .1))
 
 slice-relend-prefix-call-8 : tie.Need-slice-relend-prefix-call-8
-slice-relend-prefix-call-8 c = (c .before .before .before .before .before .before .before .before .before .cut8) .ensures
+slice-relend-prefix-call-8 c = (c .before .before .before .before .before .before .before .before .before .cut8) .ensures .1
 
 slice-aggregate-call-9 : tie.Need-slice-aggregate-call-9
-slice-aggregate-call-9 c = sym (length-take-le _ _ ((c .before .before .before .before .before .before .before .before .before .before .cut8) .ensures))
+slice-aggregate-call-9 c = sym (length-take-le _ _ ((c .before .before .before .before .before .before .before .before .before .before .cut8) .ensures .1))
 
 slice-relend-prefix-call-9 : tie.Need-slice-relend-prefix-call-9
 slice-relend-prefix-call-9 c = (c .before .before .before .before .before .before .before .before .before .before .before .before .before .before .before .before .before .before .before .before .before .before .before .before .before .before .before .before) .pre .1
@@ -119,7 +121,7 @@ same-length-9 : tie.Need-same-length-9
 same-length-9 c = length-front ((c .before .before .before .before .before .before .before .before .before .before .before .before .before .before .before .before .before .before .before .before .before .before .before .before .before .before .before .before .before .before .before .before .before .before .before .before .before .before .before .before .before .before .before .before .before .before .before .before) .args .out .now) ((c .before .before .before .before .before .before .before .before .before .before .before .before .before .before .before .before .before .before .call) .last .1 .1 .1 .1 .1 .1 .1 .1 .1 .1 .0) ((c .before .before .before .before .before .before .before .before .before .before .before .before .before .before .before .before .before .before .before .before .before .before .before .before .before .before .before .before .before .before .before .before .before .before .before .before .before .before .before .before .before .before .before .before .before .before .before .before) .args .place .room) ((c .before .before .before .before .before .before .before .before .before .before .before .before .before .before .before .before .before .before .call) .kept .1 .1 .1 .1 .1 .1 .1 .1 .1 .1 .0)
 
 returns : tie.Need-returns
-returns c = tt
+returns c = lend-made ((c .before .before .before .before .before .before .before .before .before .before .before .before .before .before .before .before .before .before .before .before .before .before .before .before .before .before .before .before .before .before .before .before .before .before .before .before .before .before .before .before .before .before .before .before .before .before .before .before) .args .case) ((c .before .before .before .before .before .before .before .before .before .before .before .before .before .before .before .before .before .before .before .before .before .before .before .before .before .before .before .before .before .before .before .before .before .before .before .before .before .before .before .before .before .before .before .before .before .before .before .before) .args .place) ((c .before .before .before .before .before .before .before .before .before .before .before .before .before .before .before .before .before .before .before .before .before .before .before .before .before .before .before .before .before .before .before .before .before .before .before .before .before .before .before .before .before .before .before .before .before .before .before .before) .args .given .now) ((c .before .before .before .before .before .before .before .before .before .before .before .before .before .before .before .before .before .before .before .before .before .before .before .before .before .before .before .before .before .before .before .before .before .before .before .before .before .before .before .before .before .before .before .before .before .before .before .before) .args .bytes .now) ((c .before .before .before .before .before .before .before .before .before .before .before .before .before .before .before .before .before .before .before .before .before .before .before .before .before .before .before .before .before .before .before .before .before .before .before .before .before .before .before .before .before .before .before .before .before .before .before .before) .args .used .now) ((c .before .before .before .before .before .before .before .before .before .before .before .before .before .before .before .before .before .before .before .before .before .before .before .before .before .before .before .before .before .before .before .before .before .before .before .before .before .before .before .before .before .before .before .before .before .before .before .before) .args .label .now) ((c .before .before .before .before .before .before .before .before .before .before .before .before .before .before .before .before .before .before .before .before .before .before .before .before .before .before .before .before .before .before .before .before .before .before .before .before .before .before .before .before .before .before .before .before .before .before .before .before) .args .link .now) ((c .before .before .before .before .before .before .before .before .before .before .before .before .before .before .before .before .before .before .before .before .before .before .before .before .before .before .before .before .before .before .before .before .before .before .before .before .before .before .before .before .before .before .before .before .before .before .before .before) .args .s0 .now) ((c .before .before .before .before .before .before .before .before .before .before .before .before .before .before .before .before .before .before .before .before .before .before .before .before .before .before .before .before .before .before .before .before .before .before .before .before .before .before .before .before .before .before .before .before .before .before .before .before) .args .s1 .now) ((c .before .before .before .before .before .before .before .before .before .before .before .before .before .before .before .before .before .before .before .before .before .before .before .before .before .before .before .before .before .before .before .before .before .before .before .before .before .before .before .before .before .before .before .before .before .before .before .before) .args .s2 .now) ((c .before .before .before .before .before .before .before .before .before .before .before .before .before .before .before .before .before .before .before .before .before .before .before .before .before .before .before .before .before .before .before .before .before .before .before .before .before .before .before .before .before .before .before .before .before .before .before .before) .args .s3 .now) ((c .before .before .before .before .before .before .before .before .before .before .before .before .before .before .before .before .before .before .before .before .before .before .before .before .before .before .before .before .before .before .before .before .before .before .before .before .before .before .before .before .before .before .before .before .before .before .before .before) .args .out .now) _ _ _ _ _ _ _ _ _ ((c .before .before .before .before .before .before .before .before .before .before .before .before .before .before .before .before .before .before .call) .result) (held ((c .before .before .before .before .before .before .before .before .before .before .before .before .before .before .before .before .before .before .call) .last .1 .1 .0) ((c .before .before .before .before .before .before .before .before .before .before .before .before .before .before .before .before .before .before .call) .last .1 .1 .1 .0) ((c .before .before .before .before .before .before .before .before .before .before .before .before .before .before .before .before .before .before .call) .last .1 .1 .1 .1 .0) ((c .before .before .before .before .before .before .before .before .before .before .before .before .before .before .before .before .before .before .call) .last .1 .1 .1 .1 .1 .0) ((c .before .before .before .before .before .before .before .before .before .before .before .before .before .before .before .before .before .before .call) .last .1 .1 .1 .1 .1 .1 .0) ((c .before .before .before .before .before .before .before .before .before .before .before .before .before .before .before .before .before .before .call) .last .1 .1 .1 .1 .1 .1 .1 .0) ((c .before .before .before .before .before .before .before .before .before .before .before .before .before .before .before .before .before .before .call) .last .1 .1 .1 .1 .1 .1 .1 .1 .0) ((c .before .before .before .before .before .before .before .before .before .before .before .before .before .before .before .before .before .before .call) .last .1 .1 .1 .1 .1 .1 .1 .1 .1 .0)) ((c .before .before .before .before .before .before .before .before .before .before .before .before .before .before .before .before .before .before .call) .last .1 .1 .1 .1 .1 .1 .1 .1 .1 .1 .0) ((c .before .before .before .before .before .before .before .before .before .before .before .before .before .before .before .before .before .before .before .before .before .before .before .before .before .before .before .before .before .before .before .before .before .before .before .before .before .cut) .ensures .0) ((c .before .before .before .before .before .before .before .before .before .before .before .before .before .before .before .before .before .before .before .before .before .before .before .before .before .before .before .before .before .before .before .before .before .before .before .before .cut2) .ensures .0) ((c .before .before .before .before .before .before .before .before .before .before .before .before .before .before .before .before .before .before .before .before .before .before .before .before .before .before .before .before .before .before .before .before .before .before .before .cut3) .ensures .0) ((c .before .before .before .before .before .before .before .before .before .before .before .before .before .before .before .before .before .before .before .before .before .before .before .before .before .before .before .before .before .before .before .before .before .before .cut4) .ensures .0) ((c .before .before .before .before .before .before .before .before .before .before .before .before .before .before .before .before .before .before .before .before .before .before .before .before .before .before .before .before .before .before .before .before .before .cut5) .ensures .0) ((c .before .before .before .before .before .before .before .before .before .before .before .before .before .before .before .before .before .before .before .before .before .before .before .before .before .before .before .before .before .before .before .before .cut6) .ensures .0) ((c .before .before .before .before .before .before .before .before .before .before .before .before .before .before .before .before .before .before .before .before .before .before .before .before .before .before .before .before .before .before .before .cut7) .ensures .0) ((c .before .before .before .before .before .before .before .before .before .before .before .before .before .before .before .before .before .before .before .before .before .before .before .before .before .before .before .before .before .before .cut8) .ensures .0) ((c .before .before .before .before .before .before .before .before .before .before .before .before .before .before .before .before .before .before .before .before .before .before .before .before .before .before .before .before .before .order-of) .ensures) ((c .before .before .before .before .before .before .before .before .before .before .before .before .before .before .before .before .before .before .before .before .before .before .before .before .before .before .before .before .before .before .before .before .before .before .before .before .before .before .before .before .before .before .before .before .before .before .before .before) .pre .1) ((c .before .before .before .before .before .before .before .before .before .before .before .before .before .before .before .before .before .before .call) .ensures)
 
 pub lend-spec : {M : Type 1} → statement M
 lend-spec =

@@ -1,16 +1,20 @@
+use Rattle.cases.specs.CaseText.{numberFrom, numberIn}
+use Rattle.cases.proofs.Reading.{number-turn, number-end}
+use lib.ListN.{take, drop}
+use mathlib.Core.Path.{_≡_, refl, sym, _∙_}
 use native.Mathlib.Omega.{arith}
 use Prim.Native.Nat.{_<_, _-_}
 use Rattle.cases.proofs.text.number.Statement.{statement}
 use Rattle.cases.proofs.text.number.Tie as tie
 
 abbrev Inv-loop : tie.InvT-loop
-Inv-loop text from to n₀ i₀ n i = n < 10000016
+Inv-loop text from to n₀ i₀ n i = (n < 10000016) × (numberFrom n (take (to - i) (drop i text)) ≡ numberIn text from to)
 
 abbrev μ-loop : tie.MeasureT-loop
 μ-loop text from to n₀ i₀ n i = to - i
 
 loop-holds : tie.Need-loop-holds Inv-loop μ-loop
-loop-holds c = omega arith
+loop-holds c = (omega arith, refl)
 
 mul-n : tie.Need-mul-n Inv-loop μ-loop
 mul-n c = omega arith
@@ -31,10 +35,10 @@ loop-less : tie.Need-loop-less Inv-loop μ-loop
 loop-less c = omega arith
 
 loop-again : tie.Need-loop-again Inv-loop μ-loop
-loop-again c = omega arith
+loop-again c = (omega arith, rw ((c .wide) .ensures .0) (sym (number-turn ((c .before .before .before .before .before) .args .text .now) ((c .before .before .before) .loop .n) ((c .before .before .before) .loop .i) ((c .before .before .before .before .before) .args .to) ((c .before .before .loop-test) .taken) ((c .before .before .before .before .before) .pre)) ∙ (c .before .before .before) .loop .inv .1))
 
 returns : tie.Need-returns Inv-loop μ-loop
-returns c = omega arith
+returns c = (sym (number-end ((c .before .before .before) .args .text .now) ((c .before) .loop .n) ((c .before) .loop .i) ((c .before .before .before) .args .to) (omega (arith, (c .loop-test) .left))) ∙ (c .before) .loop .inv .1, omega arith)
 
 pub number-spec : {M : Type 1} → statement M
 number-spec =

@@ -1,16 +1,21 @@
+use borrow.Author.Needs.{needs}
+use lib.ListN.{length, length-set}
+use mathlib.Core.Path.{_≡_, _∙_}
+use Rattle.cases.specs.CaseText.{HexRead}
+use Rattle.cases.proofs.Reading.{hex-start, hex-turn, hex-end}
 use Prim.Native.Nat.{_≤_, _-_}
 use native.Mathlib.Omega.{arith}
 use Rattle.cases.proofs.text.read_hex.Statement.{statement}
 use Rattle.cases.proofs.text.read_hex.Tie as tie
 
 abbrev Inv-loop : tie.InvT-loop
-Inv-loop text from to given₀ i₀ given i = i ≤ 512
+Inv-loop text from to given₀ i₀ given i = (i ≤ 512) × (length given ≡ 512) × HexRead i text from to given
 
 abbrev μ-loop : tie.MeasureT-loop
 μ-loop text from to given₀ i₀ given i = 512 - i
 
 loop-holds : tie.Need-loop-holds Inv-loop μ-loop
-loop-holds c = omega arith
+loop-holds c = (omega arith, (c .before) .pre .2, hex-start _ _ _ _)
 
 mul-hex-at : tie.Need-mul-hex-at Inv-loop μ-loop
 mul-hex-at c = omega arith
@@ -31,10 +36,10 @@ loop-less : tie.Need-loop-less Inv-loop μ-loop
 loop-less c = omega arith
 
 loop-again : tie.Need-loop-again Inv-loop μ-loop
-loop-again c = omega arith
+loop-again c = (omega arith, length-set ((c .before .before) .loop .given) ((c .before .before) .loop .i) ((c .hex-at) .result) ∙ (c .before .before) .loop .inv .1, hex-turn _ _ _ ((c .before .before) .loop .given) ((c .before .before) .loop .i) ((c .hex-at) .result) (omega (arith, (c .before .before) .loop .inv .1, (c .before .loop-test) .taken)) ((c .hex-at) .ensures) ((c .before .before) .loop .inv .2))
 
 returns : tie.Need-returns Inv-loop μ-loop
-returns c = tt
+returns c = (hex-end _ _ _ _ ((c .before) .loop .i) (omega (arith, (c .loop-test) .left, (c .before) .loop .inv .0)) ((c .before) .loop .inv .2), (c .before) .loop .inv .1)
 
 pub read-hex-spec : {M : Type 1} → statement M
 read-hex-spec =
