@@ -30,7 +30,7 @@ lineLength (b ∷ r) = pick (eqb b 10) 1 (suc (lineLength r))
 abbrev pub nextLine : List ℕ → ℕ → ℕ
 nextLine text at = at + lineLength (drop at text)
 
--- digits after a number; of more than seven digits the last six count for sure
+-- a number, and the digits after it; of the number before a digit the last six digits count
 unfoldable pub numberFrom : ℕ → List ℕ → ℕ
 numberFrom n [] = n
 numberFrom n (b ∷ r) = numberFrom (n % 1000000 * 10 + b % 16) r

@@ -1,4 +1,5 @@
--- SCOPE.md, 'Numbers of refusal', TABLE and ROOM: what a case lends to its call, and where the program goes on after it.
+-- SCOPE.md, 'Numbers of refusal', TABLE and ROOM: what a case lends to its call, and where the program goes on. Words
+-- by their first letter in ASCII: b buffer, t table.
 use Prim.Native.Nat.{ℕ, _+_, _-_, min}
 use mathlib.Core.List.{List, _++_}
 use lib.ListN.{length, take, drop}
