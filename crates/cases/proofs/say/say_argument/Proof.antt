@@ -49,7 +49,7 @@ same-length-2 c = put-length ((c .before .before .solved-line) .ensures)
 
 -- src/say.rt:76:1
 returns-2 : tie.Need-returns-2
-returns-2 c = argument-yes _ _ _ _ _ _ _ _ ((c .before .before .before .before .before .before .before .argument-refusal) .ensures) (omega (arith, (c .before .before .before .before .before .before .if1) .left)) ((c .before .before .before .before .argument) .ensures) ((c .before .before .solved-line) .ensures)
+returns-2 c = argument-yes _ _ _ _ _ _ _ _ ((c .before .before .before .before .before .before .before .argument-refusal) .ensures) (omega (arith, (c .before .before .before .before .before .before .if1) .left)) ((c .before .before .before .before .argument) .ensures .0) ((c .before .before .solved-line) .ensures)
 
 pub say-argument-spec : {M : Type 1} → statement M
 say-argument-spec =
