@@ -9,9 +9,9 @@ use borrow.Author.Tests.{eq-eqb, ne-eqb}
 use lib.ListN.{drop}
 use Rattle.terms.specs.Terms.{arity, span, refusal, argRefusal, argStart}
 
--- the place n bytes after a place
-abbrev pub placeAfter : ℕ × ℕ → ℕ → ℕ × ℕ
-placeAfter place n = (place .0, n + place .1)
+-- the place of a part that begins n bytes after a place
+abbrev pub partPlace : ℕ × ℕ → ℕ → ℕ × ℕ
+partPlace place n = (place .0, n + place .1)
 
 -- one term more takes more bytes
 longer : (sig t : List ℕ) (k : ℕ) → span sig t k < span sig t (suc k)
@@ -52,7 +52,7 @@ places-ascend sig t i j h g l =
 
 -- so a part stands where one argument does: of f(a,a) argument 1 is never answered for argument 2
 pub place-one : (sig t : List ℕ) (i j : ℕ) (place : ℕ × ℕ) → argRefusal sig t i ≡ 0 → argRefusal sig t j ≡ 0
-    → placeAfter place (argStart sig t i) ≡ placeAfter place (argStart sig t j) → i ≡ j
+    → partPlace place (argStart sig t i) ≡ partPlace place (argStart sig t j) → i ≡ j
 place-one sig t i j place h g e =
     let n : argStart sig t i + place .1 ≡ argStart sig t j + place .1 = ap (λ (q : ℕ × ℕ). q .1) e in
     go (ℕ-discrete i j) n

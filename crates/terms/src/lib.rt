@@ -10,7 +10,7 @@ ghost use lib.ListN.{length, take, drop};
 ghost use Rattle.laws.specs.Choice.{pick};
 ghost use Rattle.terms.specs.Refusals.{numberOf, checkedNumber};
 ghost use Rattle.terms.specs.Terms.{arity as arityOf, span, declared as isDeclared, itemsGood, aritiesGood, sigRefusal, refusal, firstItem, argRefusal, argBytes, argStart};
-ghost use Rattle.terms.specs.Places.{placeAfter};
+ghost use Rattle.terms.specs.Places.{partPlace};
 
 // Why a call is refused, in the order of SCOPE.md's numbers.
 pub enum Refusal {
@@ -285,7 +285,7 @@ pub fn argument_start(sig: &[u8], t: &[u8], i: usize) -> usize
 // Argument i as the part of `t` where it stands; the empty part at its start where check_argument refuses.
 pub fn argument<'a>(sig: &[u8], t: &'a [u8], i: usize) -> &'a [u8]
     ensures { λ r. ⌜ (now r ≡ argBytes (now (sig .entry)) (now (t .entry)) i)
-        × (r .ptr ≡ placeAfter (t .entry .ptr) (argStart (now (sig .entry)) (now (t .entry)) i)) ⌝ }
+        × (r .ptr ≡ partPlace (t .entry .ptr) (argStart (now (sig .entry)) (now (t .entry)) i)) ⌝ }
 {
     if argument_refusal(sig, t, i) != 0 {
         return &t[0..0];

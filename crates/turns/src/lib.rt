@@ -7,6 +7,8 @@ use order::task_at;
 use orders::call;
 use say::say;
 use say::stops;
+ghost use mathlib.Core.Path.{_≡_};
+ghost use Rattle.laws.specs.Choice.{pick};
 ghost use Rattle.layout.specs.Tables.{held};
 ghost use Rattle.turns.specs.Turns.{Turned};
 
@@ -14,6 +16,13 @@ ghost use Rattle.turns.specs.Turns.{Turned};
 pub struct Progress {
     pub length: usize,
     pub next: usize,
+}
+
+// The place of the next field, or the input's end.
+fn next_place(stop: bool, next: usize, end: usize) -> usize
+    ensures { λ r. ⌜ r ≡ pick stop end next ⌝ }
+{
+    if stop { end } else { next }
 }
 
 // Makes the call of the field at a place, and writes its line to the start of `line`.
@@ -57,10 +66,6 @@ pub fn turn(
         out,
     );
     let length = say(order, reply, out, line);
-    let next = if stops(order, reply) {
-        input.len()
-    } else {
-        end
-    };
+    let next = next_place(stops(order, reply), end, input.len());
     Progress { length, next }
 }
