@@ -12,11 +12,11 @@ use borrow.Author.Tests.{le-ltb, ne-eqb, eq-eqb}
 use Rattle.laws.specs.Sizes.{inputLimit, answerRoom}
 use Rattle.terms.specs.Terms.{sigRefusal}
 use Rattle.definitions.specs.Answers.{Answer, refused, done, unless}
-use Rattle.library.specs.Store.{Store, Call, openWith, answered}
+use Rattle.library.specs.Store.{Store, openWith, answered}
 use Rattle.log.specs.Reading.{fieldsOf, fieldOr}
 use Rattle.log.specs.declared.field.Field.{Field}
 use Rattle.log.specs.declared.field.Field.the-variants.{End, Cut, Whole}
-use Rattle.turns.specs.Printed.{Line, answer, log, firstCall, payload, callIn, moved, lineThen, laterLines, unlessRefused, unopened, firstLines, linesOf}
+use Rattle.turns.specs.Printed.{Operation, toOpen, toInsert, toDelete, toRetrieve, toSolve, libraryCall, Line, answer, log, firstOperation, payload, operationIn, moved, lineThen, laterLines, unlessRefused, unopened, firstLines, linesOf}
 use Rattle.turns.specs.LogApplies.{Faulty, RefusedSignature, SignatureRefused, LogApplies, AllLie, fields-lie, Verdict, later-verdict, SomeFaulty, faulty-here, faulty-there, Stops, FirstVerdict, first-verdict, FaultyIn, Ending, lines-ending, not-nothing}
 
 -- an input that is not too long
@@ -30,10 +30,10 @@ later-each : (s : List ℕ) (st : Store) (fs : List Field) → AllLie s fs → (
 unfolding laterLines
 later-each s st [] h n = refl
 later-each s st (f ∷ fs) h n =
-    go (callIn answerRoom false s f) (later-verdict 0 s f (h .0))
+    go (operationIn false s f) (later-verdict 0 s f (h .0))
     (λ st′. later-each s st′ fs (h .1) (λ x. n (faulty-there f fs x)))
   where
-    go : (o : Option Call) → Verdict 1 f o → ((st′ : Store) → length (laterLines s st′ fs) ≡ length fs)
+    go : (o : Option Operation) → Verdict 1 f o → ((st′ : Store) → length (laterLines s st′ fs) ≡ length fs)
         → length (lineThen st o (laterLines s (moved st o) fs)) ≡ suc (length fs)
     go none w ih = absurd (n (faulty-here f fs w))
     go (some c) w ih = ap suc (ih (moved st (some c)))
@@ -42,12 +42,12 @@ first-each : (s : List ℕ) (fs : List Field) → AllLie s fs → (FaultyIn s fs
     → (RefusedSignature s (fieldOr fs 0) → ⊥) → length (firstLines s fs) ≡ length fs
 unfolding firstLines fieldOr
 first-each s [] h n r = refl
-first-each s (f ∷ fs) h n r = go (callIn answerRoom true s f) (first-verdict s f (h .0))
+first-each s (f ∷ fs) h n r = go (operationIn true s f) (first-verdict s f (h .0))
   where
-    go : (o : Option Call) → FirstVerdict s f o
+    go : (o : Option Operation) → FirstVerdict s f o
         → length (lineThen unopened o (unlessRefused unopened o (laterLines s (moved unopened o) fs))) ≡ suc (length fs)
     go none w = absurd (n (0, w, r))
-    go (some c) w = ap suc (answering (answered unopened c) (w .1))
+    go (some c) w = ap suc (answering (answered unopened (libraryCall answerRoom c)) (w .1))
       where
         answering : (a : Answer) → (Stops a ↔ RefusedSignature s f)
             → length (unless a [] (laterLines s (moved unopened (some c)) fs)) ≡ length fs
@@ -66,21 +66,21 @@ line-each s n r =
 
 -- A REFUSED SIGNATURE: 'nothing more is printed, even if later fields are faulty'
 opening-refused : (s : List ℕ) (f : Field) (fs : List Field) → RefusedSignature s f
-    → (p : List ℕ) × (firstLines s (f ∷ fs) ≡ answer (openWith p) (refused 2) ∷ [])
-unfolding firstLines firstCall answered
+    → (p : List ℕ) × (firstLines s (f ∷ fs) ≡ answer (toOpen p) (refused 2) ∷ [])
+unfolding firstLines firstOperation answered
 opening-refused s End fs r = absurd r
 opening-refused s Cut fs r = absurd r
 opening-refused s (Whole tag start n) fs r =
     (payload s start n, rw (eq-eqb tag 1 (r .0), ne-eqb (sigRefusal (payload s start n)) 0 (r .1)))
 
 signature-alone : (s : List ℕ) (fs : List Field) → RefusedSignature s (fieldOr fs 0)
-    → (p : List ℕ) × (firstLines s fs ≡ answer (openWith p) (refused 2) ∷ [])
+    → (p : List ℕ) × (firstLines s fs ≡ answer (toOpen p) (refused 2) ∷ [])
 unfolding fieldOr
 signature-alone s [] r = absurd r
 signature-alone s (f ∷ fs) r = opening-refused s f fs r
 
 pub refused-alone : (s : List ℕ) → length s ≤ inputLimit → SignatureRefused s
-    → (p : List ℕ) × (linesOf s ≡ answer (openWith p) (refused 2) ∷ [])
+    → (p : List ℕ) × (linesOf s ≡ answer (toOpen p) (refused 2) ∷ [])
 refused-alone s h r = rw (lines-short s h) (signature-alone s (fieldsOf s) r)
 
 -- WHICH LINE LOG IS: an answer is the line of a field that is not faulty, LOG that of a faulty one
@@ -94,9 +94,9 @@ later-placed : (i : ℕ) (s : List ℕ) (st : Store) (fs : List Field) → AllLi
 unfolding laterLines fieldOr
 later-placed i s st [] h = tt
 later-placed i s st (f ∷ fs) h =
-    go (callIn answerRoom false s f) (later-verdict i s f (h .0)) (λ st′. later-placed (suc i) s st′ fs (h .1))
+    go (operationIn false s f) (later-verdict i s f (h .0)) (λ st′. later-placed (suc i) s st′ fs (h .1))
   where
-    go : (o : Option Call) → Verdict (suc i) f o → ((st′ : Store) → Placed (suc (suc i)) fs (laterLines s st′ fs))
+    go : (o : Option Operation) → Verdict (suc i) f o → ((st′ : Store) → Placed (suc (suc i)) fs (laterLines s st′ fs))
         → Placed (suc i) (f ∷ fs) (lineThen st o (laterLines s (moved st o) fs))
     go none w ih = w
     go (some c) w ih = (w, ih (moved st (some c)))
@@ -104,12 +104,12 @@ later-placed i s st (f ∷ fs) h =
 first-placed : (s : List ℕ) (fs : List Field) → AllLie s fs → Placed 0 fs (firstLines s fs)
 unfolding firstLines fieldOr
 first-placed s [] h = tt
-first-placed s (f ∷ fs) h = go (callIn answerRoom true s f) (first-verdict s f (h .0))
+first-placed s (f ∷ fs) h = go (operationIn true s f) (first-verdict s f (h .0))
   where
-    go : (o : Option Call) → FirstVerdict s f o
+    go : (o : Option Operation) → FirstVerdict s f o
         → Placed 0 (f ∷ fs) (lineThen unopened o (unlessRefused unopened o (laterLines s (moved unopened o) fs)))
     go none w = w
-    go (some c) w = (w .0, answering (answered unopened c))
+    go (some c) w = (w .0, answering (answered unopened (libraryCall answerRoom c)))
       where
         answering : (a : Answer) → Placed 1 fs (unless a [] (laterLines s (moved unopened (some c)) fs))
         answering (refused m) = tt

@@ -20,7 +20,7 @@ use Rattle.library.specs.Store.{slotsFrom, inUse, freeFrom, put, place?, key?, 
 use Rattle.log.specs.Fields.{fieldAt}
 use Rattle.log.specs.Reading.{before, fieldsWithin, fieldsFrom}
 use Rattle.log.specs.Lines.{digits, decimal, hex, slotList, recordText, plainLine, refusedLine, slotLine, foundLine, solvedLine}
-use Rattle.turns.specs.Printed.{firstCall, laterCall, laterLines, firstLines, linesOf, textOfAll, printed}
+use Rattle.turns.specs.Printed.{firstOperation, laterOperation, laterLines, firstLines, linesOf, textOfAll, printed}
 
 -- 'the input in hex', field by field
 abbrev pub input : List ℕ
@@ -71,7 +71,7 @@ output =
     ∷ []
 
 pub example : printed input ≡ output
-unfolding printed textOfAll linesOf firstLines laterLines laterCall firstCall fieldsFrom fieldsWithin before fieldAt digits decimal hex slotList recordText plainLine refusedLine slotLine foundLine solvedLine answered empty after put freeFrom inUse keysFrom distinct place? key? candidates answers slotsFrom longFrom listed sigRefusal aritiesGood refusal numbers span declared itemsGood isCandidate candidate agree agreeAll treeOf keysOf endOf keysT keysA forest firsts others top stands bindings? solution solve by-free by-size step face face-var face-bound var-symbol var-var in? once-cases ℕ-discrete one at-bind at-swap at-follow decLe terms? codes moved matcher matching against items? item? same? recordOf countOf listedFrom bytes fieldBytes written
+unfolding printed textOfAll linesOf firstLines laterLines laterOperation firstOperation fieldsFrom fieldsWithin before fieldAt digits decimal hex slotList recordText plainLine refusedLine slotLine foundLine solvedLine answered empty after put freeFrom inUse keysFrom distinct place? key? candidates answers slotsFrom longFrom listed sigRefusal aritiesGood refusal numbers span declared itemsGood isCandidate candidate agree agreeAll treeOf keysOf endOf keysT keysA forest firsts others top stands bindings? solution solve by-free by-size step face face-var face-bound var-symbol var-var in? once-cases ℕ-discrete one at-bind at-swap at-follow decLe terms? codes moved matcher matching against items? item? same? recordOf countOf listedFrom bytes fieldBytes written
 example = refl
 
 -- the field of the example's signature
@@ -130,5 +130,5 @@ Printing =
     × (printed (signatureField ++ (2 ∷ 0 ∷ 4 ∷ 0 ∷ 0 ∷ [])) ≡ openLine ++ logLine)
 
 pub printing : Printing
-unfolding printed textOfAll linesOf firstLines laterLines laterCall firstCall fieldsFrom fieldsWithin before fieldAt digits decimal hex slotList recordText plainLine refusedLine slotLine foundLine solvedLine answered empty after put freeFrom inUse keysFrom distinct place? key? candidates answers slotsFrom longFrom listed sigRefusal aritiesGood refusal numbers span declared itemsGood isCandidate candidate agree agreeAll treeOf keysOf endOf keysT keysA forest firsts others top stands bindings? solution solve by-free by-size step face face-var face-bound var-symbol var-var in? once-cases ℕ-discrete one at-bind at-swap at-follow decLe terms? codes moved matcher matching against items? item? same? recordOf countOf listedFrom bytes fieldBytes written
+unfolding printed textOfAll linesOf firstLines laterLines laterOperation firstOperation fieldsFrom fieldsWithin before fieldAt digits decimal hex slotList recordText plainLine refusedLine slotLine foundLine solvedLine answered empty after put freeFrom inUse keysFrom distinct place? key? candidates answers slotsFrom longFrom listed sigRefusal aritiesGood refusal numbers span declared itemsGood isCandidate candidate agree agreeAll treeOf keysOf endOf keysT keysA forest firsts others top stands bindings? solution solve by-free by-size step face face-var face-bound var-symbol var-var in? once-cases ℕ-discrete one at-bind at-swap at-follow decLe terms? codes moved matcher matching against items? item? same? recordOf countOf listedFrom bytes fieldBytes written
 printing = (refl, refl, refl, refl, refl, refl, refl, refl, refl, refl, refl, refl, refl, refl, refl, refl, refl, refl, refl, refl)

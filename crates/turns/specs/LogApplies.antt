@@ -16,14 +16,14 @@ use Rattle.laws.specs.Members.{In}
 use Rattle.laws.specs.Sizes.{inputLimit, answerRoom}
 use Rattle.terms.specs.Terms.{sigRefusal}
 use Rattle.definitions.specs.Answers.{Answer, refused, done, unless}
-use Rattle.library.specs.Store.{Store, Call, openWith, insert, delete, withKey, retrieve, solve, answered}
+use Rattle.library.specs.Store.{Store, openWith, answered}
 use Rattle.log.specs.Fields.{fieldAt}
 use Rattle.log.specs.Lines.{digits, decimal, plainLine, refusedLine, slotLine, foundLine, solvedLine}
 use Rattle.log.specs.Reading.{placeAfter, before, fieldsWithin, fieldsFrom, fieldsOf, fieldOr}
 use Rattle.log.specs.declared.field.Field.{Field}
 use Rattle.log.specs.declared.field.Field.the-variants.{End, Cut, Whole}
 use Rattle.log.proofs.Fields.{field-inside}
-use Rattle.turns.specs.Printed.{Line, answer, log, firstCall, deleteCall, retrieveCall, solveCall, laterCall, payload, callIn, moved, lineThen, laterLines, unlessRefused, unopened, firstLines, linesOf, textOf, wordOf, answerText}
+use Rattle.turns.specs.Printed.{Operation, toOpen, toInsert, toDelete, toRetrieve, toSolve, libraryCall, Line, answer, log, firstOperation, deleteOperation, retrieveOperation, solveOperation, laterOperation, payload, operationIn, moved, lineThen, laterLines, unlessRefused, unopened, firstLines, linesOf, textOf, wordOf, answerText}
 
 -- a whole field, number i of its log, with this tag and a payload of n bytes, that LOG is printed for
 pub data Wrong (i tag n : ℕ) : Type 0 where
@@ -91,7 +91,7 @@ payload-length : (s : List ℕ) (start n : ℕ) → start + n ≤ length s → l
 payload-length s start n h = omega (arith, h, length-take n (drop start s), length-drop start s)
 
 -- THE CALL of a field: there is none exactly where the field is faulty
-abbrev pub Verdict : ℕ → Field → Option Call → Type 0
+abbrev pub Verdict : ℕ → Field → Option Operation → Type 0
 Verdict i f none = Faulty i f
 Verdict i f (some c) = Faulty i f → ⊥
 
@@ -160,20 +160,20 @@ above : (k t : ℕ) → k ≤ t → (t ≡ k → ⊥) → suc k ≤ t
 above k t h n = omega (arith, h, n)
 
 module _ (i tag start n : ℕ) where
-  abbrev Says : Option Call → Type 0
+  abbrev Says : Option Operation → Type 0
   Says o = Verdict (suc i) (Whole tag start n) o
 
-  delete-says : tag ≡ 3 → (p : List ℕ) → length p ≡ n → Says (deleteCall p)
+  delete-says : tag ≡ 3 → (p : List ℕ) → length p ≡ n → Says (deleteOperation p)
   delete-says e [] l = not-two e (λ z. omega (arith, l, z))
   delete-says e (h ∷ []) l = not-two e (λ z. omega (arith, l, z))
   delete-says e (h ∷ k ∷ []) l = right-delete i tag n e (sym l)
   delete-says e (h ∷ k ∷ m ∷ p) l = not-two e (λ z. omega (arith, l, z))
 
-  retrieve-says : tag ≡ 4 → (p : List ℕ) → length p ≡ n → Says (retrieveCall answerRoom p)
+  retrieve-says : tag ≡ 4 → (p : List ℕ) → length p ≡ n → Says (retrieveOperation p)
   retrieve-says e [] l = no-relation e (sym l)
   retrieve-says e (r ∷ q) l = right-retrieve i tag n e (omega (arith, l))
 
-  solve-says : tag ≡ 5 → (p : List ℕ) → length p ≡ n → Says (solveCall answerRoom p)
+  solve-says : tag ≡ 5 → (p : List ℕ) → length p ≡ n → Says (solveOperation p)
   solve-says e [] l = no-slot e (omega (arith, l))
   solve-says e (h ∷ []) l = no-slot e (omega (arith, l))
   solve-says e (h ∷ k ∷ q) l = right-solve i tag n e (omega (arith, l))
@@ -188,8 +188,8 @@ module _ (i tag start n : ℕ) where
       go (no z) = unknown (inr (above 5 tag (above 4 tag (above 3 tag
           (above 2 tag (above 1 tag (above 0 tag (omega arith) z) m) a) b) c) d))
 
-  later-says : (p : List ℕ) → length p ≡ n → Says (laterCall answerRoom tag p)
-  unfolding laterCall
+  later-says : (p : List ℕ) → length p ≡ n → Says (laterOperation tag p)
+  unfolding laterOperation
   later-says p l =
       chosen Says (eqb tag 2) _ _ (λ e. right-insert i tag n (eqb-true tag 2 e)) (λ a.
       chosen Says (eqb tag 3) _ _ (λ e. delete-says (eqb-true tag 3 e) p l) (λ b.
@@ -197,13 +197,13 @@ module _ (i tag start n : ℕ) where
       chosen Says (eqb tag 5) _ _ (λ e. solve-says (eqb-true tag 5 e) p l) (λ d.
       other-says (eqb-false tag 2 a) (eqb-false tag 3 b) (eqb-false tag 4 c) (eqb-false tag 5 d) (ℕ-discrete tag 1)))))
 
-pub later-verdict : (i : ℕ) (s : List ℕ) (f : Field) → Lies s f → Verdict (suc i) f (callIn answerRoom false s f)
+pub later-verdict : (i : ℕ) (s : List ℕ) (f : Field) → Lies s f → Verdict (suc i) f (operationIn false s f)
 later-verdict i s End h = absurd h
 later-verdict i s Cut h = tt
 later-verdict i s (Whole tag start n) h = later-says i tag start n (payload s start n) (payload-length s start n h)
 
 -- THE LINES of the later fields: LOG is one of them exactly where one of these fields is faulty
-log-answer : (c : Call) (a : Answer) → log ≡ answer c a → ⊥
+log-answer : (c : Operation) (a : Answer) → log ≡ answer c a → ⊥
 log-answer c a e = let z : _≡_ {A = ℕ} 0 1 = cc in omega arith
 
 abbrev pub SomeFaulty : List Field → Type 0
@@ -230,19 +230,19 @@ later-log : (s : List ℕ) (st : Store) (fs : List Field) → AllLie s fs → In
 unfolding laterLines
 later-log s st [] h = ((λ i. absurd i), (λ w. none-faulty w))
 later-log s st (f ∷ fs) h =
-    go (callIn answerRoom false s f) (later-verdict 0 s f (h .0)) (λ st′. later-log s st′ fs (h .1))
+    go (operationIn false s f) (later-verdict 0 s f (h .0)) (λ st′. later-log s st′ fs (h .1))
   where
-    go : (o : Option Call) → Verdict 1 f o
+    go : (o : Option Operation) → Verdict 1 f o
         → ((st′ : Store) → In log (laterLines s st′ fs) ↔ SomeFaulty fs)
         → In log (lineThen st o (laterLines s (moved st o) fs)) ↔ SomeFaulty (f ∷ fs)
     go none w ih = ((λ i. faulty-here f fs w), (λ x. inl refl))
     go (some c) w ih = (from, into)
       where
-        from : (log ≡ answer c (answered st c)) ⊎ In log (laterLines s (moved st (some c)) fs) → SomeFaulty (f ∷ fs)
-        from (inl e) = absurd (log-answer c (answered st c) e)
+        from : (log ≡ answer c (answered st (libraryCall answerRoom c))) ⊎ In log (laterLines s (moved st (some c)) fs) → SomeFaulty (f ∷ fs)
+        from (inl e) = absurd (log-answer c (answered st (libraryCall answerRoom c)) e)
         from (inr i) = faulty-there f fs (ih (moved st (some c)) .0 i)
 
-        into : SomeFaulty (f ∷ fs) → (log ≡ answer c (answered st c)) ⊎ In log (laterLines s (moved st (some c)) fs)
+        into : SomeFaulty (f ∷ fs) → (log ≡ answer c (answered st (libraryCall answerRoom c))) ⊎ In log (laterLines s (moved st (some c)) fs)
         into x = ⊎-elim (λ y. absurd (w y)) (λ y. inr (ih (moved st (some c)) .1 y)) (faulty-which f fs x)
 
 -- THE FIRST FIELD: there is no call exactly where it is faulty, and the call is refused exactly where its signature is
@@ -250,9 +250,9 @@ abbrev pub Stops : Answer → Type 0
 Stops (refused n) = Unit {0}
 Stops (done a b w) = ⊥
 
-abbrev pub FirstVerdict : List ℕ → Field → Option Call → Type 0
+abbrev pub FirstVerdict : List ℕ → Field → Option Operation → Type 0
 FirstVerdict s f none = Faulty 0 f
-FirstVerdict s f (some c) = (Faulty 0 f → ⊥) × (Stops (answered unopened c) ↔ RefusedSignature s f)
+FirstVerdict s f (some c) = (Faulty 0 f → ⊥) × (Stops (answered unopened (libraryCall answerRoom c)) ↔ RefusedSignature s f)
 
 open-stops : (p : List ℕ) → Stops (answered unopened (openWith p)) ↔ (sigRefusal p ≡ 0 → ⊥)
 unfolding answered
@@ -262,12 +262,12 @@ open-stops p = go (eqb (sigRefusal p) 0) refl
     go true e = ((λ x. absurd x), (λ m. absurd (m (eqb-true (sigRefusal p) 0 e))))
     go false e = ((λ x. eqb-false (sigRefusal p) 0 e), (λ m. tt))
 
-pub first-verdict : (s : List ℕ) (f : Field) → Lies s f → FirstVerdict s f (callIn answerRoom true s f)
-unfolding firstCall
+pub first-verdict : (s : List ℕ) (f : Field) → Lies s f → FirstVerdict s f (operationIn true s f)
+unfolding firstOperation
 first-verdict s End h = absurd h
 first-verdict s Cut h = tt
 first-verdict s (Whole tag start n) h =
-    chosen (FirstVerdict s (Whole tag start n)) (eqb tag 1) (some (openWith (payload s start n))) none
+    chosen (FirstVerdict s (Whole tag start n)) (eqb tag 1) (some (toOpen (payload s start n))) none
     (λ e. (right-first tag n (eqb-true tag 1 e), stops (eqb-true tag 1 e)))
     (λ e. not-signature refl (eqb-false tag 1 e))
   where
@@ -287,34 +287,34 @@ FaultyIn s fs = (i : ℕ) × Faulty i (fieldOr fs i) × (RefusedSignature s (fie
 first-log : (s : List ℕ) (fs : List Field) → AllLie s fs → In log (firstLines s fs) ↔ FaultyIn s fs
 unfolding firstLines fieldOr
 first-log s [] h = ((λ i. absurd i), (λ w. w .1))
-first-log s (f ∷ fs) h = go (callIn answerRoom true s f) (first-verdict s f (h .0))
+first-log s (f ∷ fs) h = go (operationIn true s f) (first-verdict s f (h .0))
   where
-    go : (o : Option Call) → FirstVerdict s f o
+    go : (o : Option Operation) → FirstVerdict s f o
         → In log (lineThen unopened o (unlessRefused unopened o (laterLines s (moved unopened o) fs)))
         ↔ FaultyIn s (f ∷ fs)
     go none w = ((λ i. (0, w, faulty-first s f w)), (λ x. inl refl))
-    go (some c) (n, stops) = answering (answered unopened c) stops
+    go (some c) (n, stops) = answering (answered unopened (libraryCall answerRoom c)) stops
       where
         rest : List Line
         rest = laterLines s (moved unopened (some c)) fs
 
         answering : (a : Answer) → (Stops a ↔ RefusedSignature s f)
-            → ((log ≡ answer c (answered unopened c)) ⊎ In log (unless a [] rest)) ↔ FaultyIn s (f ∷ fs)
+            → ((log ≡ answer c (answered unopened (libraryCall answerRoom c))) ⊎ In log (unless a [] rest)) ↔ FaultyIn s (f ∷ fs)
         answering (refused m) k = (from, (λ x. absurd (x .2 (k .0 tt))))
           where
-            from : (log ≡ answer c (answered unopened c)) ⊎ ⊥ → FaultyIn s (f ∷ fs)
-            from (inl e) = absurd (log-answer c (answered unopened c) e)
+            from : (log ≡ answer c (answered unopened (libraryCall answerRoom c))) ⊎ ⊥ → FaultyIn s (f ∷ fs)
+            from (inl e) = absurd (log-answer c (answered unopened (libraryCall answerRoom c)) e)
             from (inr i) = absurd i
         answering (done a b w) k = (from, into)
           where
             later : In log rest ↔ SomeFaulty fs
             later = later-log s (moved unopened (some c)) fs (h .1)
 
-            from : (log ≡ answer c (answered unopened c)) ⊎ In log rest → FaultyIn s (f ∷ fs)
-            from (inl e) = absurd (log-answer c (answered unopened c) e)
+            from : (log ≡ answer c (answered unopened (libraryCall answerRoom c))) ⊎ In log rest → FaultyIn s (f ∷ fs)
+            from (inl e) = absurd (log-answer c (answered unopened (libraryCall answerRoom c)) e)
             from (inr i) = let x = later .0 i in (suc (x .0), x .1, k .1)
 
-            into : FaultyIn s (f ∷ fs) → (log ≡ answer c (answered unopened c)) ⊎ In log rest
+            into : FaultyIn s (f ∷ fs) → (log ≡ answer c (answered unopened (libraryCall answerRoom c))) ⊎ In log rest
             into (zero, x, r) = absurd (n x)
             into (suc j, x, r) = inr (later .1 (j, x))
 
@@ -341,7 +341,7 @@ Ending [] = Unit {0}
 Ending (answer c a ∷ l) = Ending l
 Ending (log ∷ l) = l ≡ []
 
-then-ending : (st : Store) (o : Option Call) (rest : List Line) → Ending rest → Ending (lineThen st o rest)
+then-ending : (st : Store) (o : Option Operation) (rest : List Line) → Ending rest → Ending (lineThen st o rest)
 then-ending st none rest h = refl
 then-ending st (some c) rest h = h
 
@@ -349,12 +349,12 @@ later-ending : (s : List ℕ) (st : Store) (fs : List Field) → Ending (laterLi
 unfolding laterLines
 later-ending s st [] = tt
 later-ending s st (f ∷ fs) =
-    then-ending st (callIn answerRoom false s f) (laterLines s (moved st (callIn answerRoom false s f)) fs)
-    (later-ending s (moved st (callIn answerRoom false s f)) fs)
+    then-ending st (operationIn false s f) (laterLines s (moved st (operationIn false s f)) fs)
+    (later-ending s (moved st (operationIn false s f)) fs)
 
-unless-ending : (st : Store) (o : Option Call) (rest : List Line) → Ending rest → Ending (unlessRefused st o rest)
+unless-ending : (st : Store) (o : Option Operation) (rest : List Line) → Ending rest → Ending (unlessRefused st o rest)
 unless-ending st none rest h = tt
-unless-ending st (some c) rest h = go (answered st c)
+unless-ending st (some c) rest h = go (answered st (libraryCall answerRoom c))
   where
     go : (a : Answer) → Ending (unless a [] rest)
     go (refused n) = tt
@@ -364,7 +364,7 @@ first-ending : (s : List ℕ) (fs : List Field) → Ending (firstLines s fs)
 unfolding firstLines
 first-ending s [] = tt
 first-ending s (f ∷ fs) =
-    let o = callIn answerRoom true s f in
+    let o = operationIn true s f in
     then-ending unopened o (unlessRefused unopened o (laterLines s (moved unopened o) fs))
     (unless-ending unopened o (laterLines s (moved unopened o) fs) (later-ending s (moved unopened o) fs))
 
@@ -396,28 +396,25 @@ unfolding refusedLine decimal digits
 log-text = refl
 
 -- no other line has these bytes
-first-letter : (c : Call) (a : Answer) → getD (answerText c a) 0 0 ≡ getD (wordOf c) 0 0
+first-letter : (c : Operation) (a : Answer) → getD (answerText c a) 0 0 ≡ getD (wordOf c) 0 0
 unfolding plainLine refusedLine slotLine foundLine solvedLine
-first-letter (openWith sig) (refused n) = refl
-first-letter (insert t) (refused n) = refl
-first-letter (delete s) (refused n) = refl
-first-letter (withKey k room) (refused n) = refl
-first-letter (retrieve r q room) (refused n) = refl
-first-letter (solve s q room) (refused n) = refl
-first-letter (openWith sig) (done a b w) = refl
-first-letter (insert t) (done a b w) = refl
-first-letter (delete s) (done a b w) = refl
-first-letter (withKey k room) (done a b w) = refl
-first-letter (retrieve r q room) (done a b w) = refl
-first-letter (solve s q room) (done a b w) = refl
+first-letter (toOpen sig) (refused n) = refl
+first-letter (toInsert t) (refused n) = refl
+first-letter (toDelete s) (refused n) = refl
+first-letter (toRetrieve r q) (refused n) = refl
+first-letter (toSolve s q) (refused n) = refl
+first-letter (toOpen sig) (done a b w) = refl
+first-letter (toInsert t) (done a b w) = refl
+first-letter (toDelete s) (done a b w) = refl
+first-letter (toRetrieve r q) (done a b w) = refl
+first-letter (toSolve s q) (done a b w) = refl
 
-other-letter : (c : Call) → getD (wordOf c) 0 0 ≡ 108 → ⊥
-other-letter (openWith sig) e = omega arith
-other-letter (insert t) e = omega arith
-other-letter (delete s) e = omega arith
-other-letter (withKey k room) e = omega arith
-other-letter (retrieve r q room) e = omega arith
-other-letter (solve s q room) e = omega arith
+other-letter : (c : Operation) → getD (wordOf c) 0 0 ≡ 108 → ⊥
+other-letter (toOpen sig) e = omega arith
+other-letter (toInsert t) e = omega arith
+other-letter (toDelete s) e = omega arith
+other-letter (toRetrieve r q) e = omega arith
+other-letter (toSolve s q) e = omega arith
 
 pub log-line : (l : Line) → textOf l ≡ textOf log → l ≡ log
 log-line log e = refl

@@ -16,13 +16,12 @@ use Rattle.slots.specs.Slots.{listed}
 use Rattle.slots.proofs.Listing.{length-listed}
 use Rattle.terms.specs.Terms.{sigRefusal, refusal}
 use Rattle.theory.specs.Unify.{Bind, full}
-use Rattle.keys.specs.Bytes.{isKey}
 use Rattle.definitions.specs.Records.{recordOf, countOf}
 use Rattle.definitions.specs.Decisions.{bindings?}
 use Rattle.definitions.specs.Answers.{Answer, refused, done, refusalIn, firstIn, secondIn, written, unless, recorded, longFrom}
 use Rattle.layout.specs.Tables.{Tables, ample}
 use Rattle.calls.specs.Outcome.{Outcome, Result, told}
-use Rattle.library.specs.Store.{Store, Call, openWith, insert, delete, withKey, retrieve, solve, roomOf, inUse, firstFree, put, keyCount, keyed, answers, candidates, solving, answered, empty, after}
+use Rattle.library.specs.Store.{Store, openWith, inUse, firstFree, put, keyCount, answers, candidates, solving, answered, empty, after}
 use Rattle.store.specs.Calls.{opening}
 use Rattle.meaning.specs.Runs.{carried, Called}
 use Rattle.meaning.specs.Stand.{Stand}
@@ -37,9 +36,9 @@ use Rattle.log.specs.Reading.{placeAfter, takenAt, before, fieldsFrom, fieldsOf
 use Rattle.log.specs.Lines.{Put, refusedLine, plainLine}
 use Rattle.log.proofs.Fields.{field-end, taken-onward}
 use Rattle.log.proofs.Reading.{next-first}
-use Rattle.turns.specs.Printed.{firstCall, deleteCall, retrieveCall, solveCall, laterCall, payload, callIn, Line, answer, log, moved, lineThen, laterLines, unlessRefused, unopened, firstLines, linesOf, wordOf, logWord, doneText, answerText, textOf, textOfAll, printed}
-use Rattle.turns.specs.Turns.{callAt, placePast, resultOf, toldBytes, lineOf, stopsAfter, madeAt, lineAt, nextAt, Turned}
-use Rattle.turns.specs.LongestLine.{Lent, field-lent, answer-fits, log-fits}
+use Rattle.turns.specs.Printed.{Operation, toOpen, toInsert, toDelete, toRetrieve, toSolve, libraryCall, firstOperation, deleteOperation, retrieveOperation, solveOperation, laterOperation, payload, operationIn, Line, answer, log, moved, lineThen, laterLines, unlessRefused, unopened, firstLines, linesOf, wordOf, logWord, doneText, answerText, textOf, textOfAll, printed}
+use Rattle.turns.specs.Turns.{operationAt, placePast, resultOf, toldBytes, lineOf, stopsAfter, madeAt, lineAt, nextAt, Turned}
+use Rattle.turns.specs.LongestLine.{answer-fits, log-fits}
 
 -- THE PROGRAM'S LOOP: turns from a place on until the input's end, each with the promise of `turns::turn`; what is
 -- shown of each is the first bytes of its line buffer, as many as it says. T and out are the tables and the answer
@@ -52,76 +51,75 @@ pub data Shown (s : List ℕ) : ℕ → Tables → List ℕ → List ℕ → Typ
       → Shown s next S out′ text → Shown s at T out (take length′ line ++ text)
 
 -- WHAT AN ANSWER'S BYTES ARE: a refusal has a number, a listing two bytes a slot, a record the length that is told
-abbrev Shape : Call → Answer → Type 0
-Shape c (refused n) = n ≡ 0 → ⊥
-Shape (openWith sig) (done a b w) = Unit {0}
-Shape (insert t) (done a b w) = Unit {0}
-Shape (delete s) (done a b w) = Unit {0}
-Shape (withKey k room) (done a b w) = Unit {0}
-Shape (retrieve r q room) (done a b w) = (length w ≡ 2 * b) × (length w ≤ room)
-Shape (solve s q room) (done a b w) = (length w ≡ b) × (length w ≤ room)
+abbrev Shape : ℕ → Operation → Answer → Type 0
+Shape room c (refused n) = n ≡ 0 → ⊥
+Shape room (toOpen sig) (done a b w) = Unit {0}
+Shape room (toInsert t) (done a b w) = Unit {0}
+Shape room (toDelete s) (done a b w) = Unit {0}
+Shape room (toRetrieve r q) (done a b w) = (length w ≡ 2 * b) × (length w ≤ room)
+Shape room (toSolve s q) (done a b w) = (length w ≡ b) × (length w ≤ room)
 
-recorded-shape : (s room : ℕ) (q : List ℕ) (B : Option (List Bind)) → Shape (solve s q room) (recorded B room)
+recorded-shape : (s room : ℕ) (q : List ℕ) (B : Option (List Bind)) → Shape room (toSolve s q) (recorded B room)
 recorded-shape s room q none = λ z. omega arith
 recorded-shape s room q (some B) =
-    chosen (Shape (solve s q room)) (longFrom (full B) 64 0) _ _ (λ e z. omega arith) (λ e.
-    chosen (Shape (solve s q room)) (ltb room (length (recordOf (full B)))) _ _ (λ f z. omega arith) (λ f.
+    chosen (Shape room (toSolve s q)) (longFrom (full B) 64 0) _ _ (λ e z. omega arith) (λ e.
+    chosen (Shape room (toSolve s q)) (ltb room (length (recordOf (full B)))) _ _ (λ f z. omega arith) (λ f.
     (refl, ltb-false room (length (recordOf (full B))) f)))
 
-solving-shape : (sig : List ℕ) (s room : ℕ) (q : List ℕ) (o : Option (List ℕ)) → Shape (solve s q room) (solving sig o q room)
+solving-shape : (sig : List ℕ) (s room : ℕ) (q : List ℕ) (o : Option (List ℕ)) → Shape room (toSolve s q) (solving sig o q room)
 solving-shape sig s room q none = λ z. omega arith
 solving-shape sig s room q (some t) =
-    chosen (Shape (solve s q room)) (eqb (refusal sig q) 0) _ _ (λ e. recorded-shape s room q (bindings? sig t q)) (λ e. eqb-false (refusal sig q) 0 e)
+    chosen (Shape room (toSolve s q)) (eqb (refusal sig q) 0) _ _ (λ e. recorded-shape s room q (bindings? sig t q)) (λ e. eqb-false (refusal sig q) 0 e)
 
-answered-shape : (st : Store) (c : Call) → Shape c (answered st c)
+answered-shape : (room : ℕ) (st : Store) (c : Operation) → Shape room c (answered st (libraryCall room c))
 unfolding answered
-answered-shape st (openWith sig) = chosen (Shape (openWith sig)) (eqb (sigRefusal sig) 0) _ _ (λ e. tt) (λ e z. omega arith)
-answered-shape st (insert t) =
-    chosen (Shape (insert t)) (eqb (refusal (st .signature) t) 0) _ _ (λ e.
-    chosen (Shape (insert t)) (eqb (firstFree st) slotCount) _ _ (λ f z. omega arith) (λ f.
-    chosen (Shape (insert t)) (ltb keyLimit (keyCount (put st (firstFree st) (some t)))) _ _ (λ g z. omega arith) (λ g. tt)))
+answered-shape room st (toOpen sig) = chosen (Shape room (toOpen sig)) (eqb (sigRefusal sig) 0) _ _ (λ e. tt) (λ e z. omega arith)
+answered-shape room st (toInsert t) =
+    chosen (Shape room (toInsert t)) (eqb (refusal (st .signature) t) 0) _ _ (λ e.
+    chosen (Shape room (toInsert t)) (eqb (firstFree st) slotCount) _ _ (λ f z. omega arith) (λ f.
+    chosen (Shape room (toInsert t)) (ltb keyLimit (keyCount (put st (firstFree st) (some t)))) _ _ (λ g z. omega arith) (λ g. tt)))
     (λ e. eqb-false (refusal (st .signature) t) 0 e)
-answered-shape st (delete s) = chosen (Shape (delete s)) (inUse st s) _ _ (λ e. tt) (λ e z. omega arith)
-answered-shape st (withKey k room) =
-    chosen (Shape (withKey k room)) (isKey (st .signature) k) _ _ (λ e.
-    chosen (Shape (withKey k room)) (ltb room (2 * length (keyed st k))) _ _ (λ f z. omega arith) (λ f. tt)) (λ e z. omega arith)
-answered-shape st (retrieve r q room) =
-    chosen (Shape (retrieve r q room)) (ltb 4 r) _ _ (λ e z. omega arith) (λ e.
-    chosen (Shape (retrieve r q room)) (eqb (refusal (st .signature) q) 0) _ _ (λ f.
-    chosen (Shape (retrieve r q room)) (ltb room (2 * length (answers st r q))) _ _ (λ g z. omega arith) (λ g.
+answered-shape room st (toDelete s) = chosen (Shape room (toDelete s)) (inUse st s) _ _ (λ e. tt) (λ e z. omega arith)
+answered-shape room st (toRetrieve r q) =
+    chosen (Shape room (toRetrieve r q)) (ltb 4 r) _ _ (λ e z. omega arith) (λ e.
+    chosen (Shape room (toRetrieve r q)) (eqb (refusal (st .signature) q) 0) _ _ (λ f.
+    chosen (Shape room (toRetrieve r q)) (ltb room (2 * length (answers st r q))) _ _ (λ g z. omega arith) (λ g.
     (length-listed (answers st r q), omega (arith, length-listed (answers st r q), ltb-false room (2 * length (answers st r q)) g))))
     (λ f. eqb-false (refusal (st .signature) q) 0 f))
-answered-shape st (solve s q room) =
-    chosen (Shape (solve s q room)) (inUse st s) _ _ (λ e. solving-shape (st .signature) s room q (st .held s)) (λ e z. omega arith)
+answered-shape room st (toSolve s q) =
+    chosen (Shape room (toSolve s q)) (inUse st s) _ _ (λ e. solving-shape (st .signature) s room q (st .held s)) (λ e z. omega arith)
 
 -- THE LINE of an answer, from what came out of its call
 take-front : (w out : List ℕ) (n : ℕ) → length w ≤ length out → n ≡ length w → take n (sets out 0 w) ≡ w
 take-front w out n h e = rw (e, front-bytes w out h) (take-append-seam w (drop (length w) out))
 
-abbrev toldText : Call → Answer → List ℕ → List ℕ
+abbrev toldText : Operation → Answer → List ℕ → List ℕ
 toldText c a out =
     pick (eqb (refusalIn a) 0) (doneText c (firstIn a) (secondIn a) (toldBytes c (secondIn a) (sets out 0 (written a))))
     (refusedLine (wordOf c) (refusalIn a))
 
-told-done : (c : Call) (a b : ℕ) (w out : List ℕ) → roomOf c ≤ length out → Shape c (done a b w) → doneText c a b (toldBytes c b (sets out 0 w)) ≡ doneText c a b w
-told-done (openWith sig) a b w out h g = refl
-told-done (insert t) a b w out h g = refl
-told-done (delete s) a b w out h g = refl
-told-done (withKey k room) a b w out h g = refl
-told-done (retrieve r q room) a b w out h g =
+told-done : (c : Operation) (a b : ℕ) (w out : List ℕ) → Shape (length out) c (done a b w) → doneText c a b (toldBytes c b (sets out 0 w)) ≡ doneText c a b w
+told-done (toOpen sig) a b w out g = refl
+told-done (toInsert t) a b w out g = refl
+told-done (toDelete s) a b w out g = refl
+told-done (toRetrieve r q) a b w out g =
     let n = length-sets out 0 w in
-    ap (doneText (retrieve r q room) a b) (take-front w out (min b (length (sets out 0 w) / 2) * 2) (omega (arith, g .1)) (omega (arith, g .0, g .1, n)))
-told-done (solve s q room) a b w out h g =
+    ap (doneText (toRetrieve r q) a b) (take-front w out (min b (length (sets out 0 w) / 2) * 2) (g .1) (omega (arith, g .0, g .1, n)))
+told-done (toSolve s q) a b w out g =
     let n = length-sets out 0 w in
-    ap (doneText (solve s q room) a b) (take-front w out (min b (length (sets out 0 w))) (omega (arith, g .1)) (omega (arith, g .0, g .1, n)))
+    ap (doneText (toSolve s q) a b) (take-front w out (min b (length (sets out 0 w))) (g .1) (omega (arith, g .0, g .1, n)))
 
-told-is : (c : Call) (a : Answer) (out : List ℕ) → roomOf c ≤ length out → Shape c a → toldText c a out ≡ answerText c a
-told-is c (refused n) out h g = rw (ne-eqb n 0 g)
-told-is c (done a b w) out h g = told-done c a b w out h g
+told-is : (c : Operation) (a : Answer) (out : List ℕ) → Shape (length out) c a → toldText c a out ≡ answerText c a
+told-is c (refused n) out g = rw (ne-eqb n 0 g)
+told-is c (done a b w) out g = told-done c a b w out g
 
-line-answer : (T : Tables) (st : Store) (c : Call) (out : List ℕ) → Stand T st → roomOf c ≤ length out → lineOf (some c) (told out (carried T c)) ≡ answerText c (answered st c)
-line-answer T st c out h l =
-    ap (λ (a : Answer). toldText c a out) (call-means T st c h .answer) ∙ told-is c (answered st c) out l (answered-shape st c)
+line-answer : (T : Tables) (st : Store) (c : Operation) (out : List ℕ) → Stand T st → length out ≡ answerRoom → lineOf (some c) (told out (carried T (libraryCall (length out) c))) ≡ answerText c (answered st (libraryCall answerRoom c))
+line-answer T st c out h room =
+    ap (λ (a : Answer). toldText c a out) (call-means T st (libraryCall (length out) c) h .answer)
+    ∙ (told-is c (answered st (libraryCall (length out) c)) out (answered-shape (length out) st c) ∙ ap (λ (k : ℕ). answerText c (answered st (libraryCall k c))) room)
+
+stand-after : (T : Tables) (st : Store) (c : Operation) (room : ℕ) → room ≡ answerRoom → Stand T st → Stand (carried T (libraryCall room c) .after) (after st (libraryCall answerRoom c))
+stand-after T st c room e h = rw e (call-means T st (libraryCall answerRoom c) h .stand)
 
 -- A TURN that shows a whole line
 line-shown : (line₀ line text : List ℕ) (n : ℕ) → length line₀ ≡ lineRoom → Put line₀ line 0 text n → length text ≤ lineRoom → take n line ≡ text
@@ -163,7 +161,7 @@ pub next-onward : (s : List ℕ) (at : ℕ) (T : Tables) (out : List ℕ) → at
     → (at < nextAt s at T out) × (nextAt s at T out ≤ length s)
 unfolding placePast
 next-onward s at T out h =
-    chosen (λ (n : ℕ). (at < n) × (n ≤ length s)) (stopsAfter (callAt (length out) s at) (madeAt s at T out .refused)) _ _ (λ e. (h, omega arith)) (λ e.
+    chosen (λ (n : ℕ). (at < n) × (n ≤ length s)) (stopsAfter (operationAt s at) (madeAt s at T out .refused)) _ _ (λ e. (h, omega arith)) (λ e.
     chosen (λ (n : ℕ). (at < n) × (n ≤ length s)) (ltb inputLimit (length s)) _ _ (λ f. (h, omega arith)) (λ f.
     let w = taken-onward s at (takenAt s at) h refl in (w .on, w .in-log)))
 
@@ -172,70 +170,68 @@ pub turned-onward : (s : List ℕ) (at : ℕ) (T : Tables) (out line₀ : List �
     → Turned s at T out line₀ S out′ line n next → at < length s → (at < next) × (next ≤ length s)
 turned-onward s at T out line₀ S out′ line n next t h = let w = next-onward s at T out h in (omega (arith, t .place, w .0), omega (arith, t .place, w .1))
 
--- WHICH CALL the turn makes
-module _ (s : List ℕ) (at : ℕ) (out : List ℕ) (short : length s ≤ inputLimit) (room : length out ≡ answerRoom) where
-  call-first : at ≡ 0 → callAt (length out) s at ≡ callIn answerRoom true s (fieldAt s at)
-  unfolding callAt
-  call-first z = rw (le-ltb inputLimit (length s) short, eq-eqb at 0 z, room)
+-- WHICH OPERATION the turn makes
+module _ (s : List ℕ) (at : ℕ) (short : length s ≤ inputLimit) where
+  call-first : at ≡ 0 → operationAt s at ≡ operationIn true s (fieldAt s at)
+  unfolding operationAt
+  call-first z = rw (le-ltb inputLimit (length s) short, eq-eqb at 0 z)
 
-  call-later : (at ≡ 0 → ⊥) → callAt (length out) s at ≡ callIn answerRoom false s (fieldAt s at)
-  unfolding callAt
-  call-later z = rw (le-ltb inputLimit (length s) short, ne-eqb at 0 z, room)
+  call-later : (at ≡ 0 → ⊥) → operationAt s at ≡ operationIn false s (fieldAt s at)
+  unfolding operationAt
+  call-later z = rw (le-ltb inputLimit (length s) short, ne-eqb at 0 z)
 
   past-is : placePast s at ≡ placeAfter s at
   unfolding placePast
   past-is = rw (le-ltb inputLimit (length s) short)
 
 -- no field after the first opens, and the first does nothing else
-abbrev NotOpen : Option Call → Type 0
+abbrev NotOpen : Option Operation → Type 0
 NotOpen none = Unit {0}
-NotOpen (some (openWith sig)) = ⊥
-NotOpen (some (insert t)) = Unit {0}
-NotOpen (some (delete s)) = Unit {0}
-NotOpen (some (withKey k room)) = Unit {0}
-NotOpen (some (retrieve r q room)) = Unit {0}
-NotOpen (some (solve s q room)) = Unit {0}
+NotOpen (some (toOpen sig)) = ⊥
+NotOpen (some (toInsert t)) = Unit {0}
+NotOpen (some (toDelete s)) = Unit {0}
+NotOpen (some (toRetrieve r q)) = Unit {0}
+NotOpen (some (toSolve s q)) = Unit {0}
 
-delete-not : (p : List ℕ) → NotOpen (deleteCall p)
+delete-not : (p : List ℕ) → NotOpen (deleteOperation p)
 delete-not [] = tt
 delete-not (h ∷ []) = tt
 delete-not (h ∷ l ∷ []) = tt
 delete-not (h ∷ l ∷ m ∷ p) = tt
 
-retrieve-not : (room : ℕ) (p : List ℕ) → NotOpen (retrieveCall room p)
-retrieve-not room [] = tt
-retrieve-not room (r ∷ q) = tt
+retrieve-not : (p : List ℕ) → NotOpen (retrieveOperation p)
+retrieve-not [] = tt
+retrieve-not (r ∷ q) = tt
 
-solve-not : (room : ℕ) (p : List ℕ) → NotOpen (solveCall room p)
-solve-not room [] = tt
-solve-not room (h ∷ []) = tt
-solve-not room (h ∷ l ∷ q) = tt
+solve-not : (p : List ℕ) → NotOpen (solveOperation p)
+solve-not [] = tt
+solve-not (h ∷ []) = tt
+solve-not (h ∷ l ∷ q) = tt
 
-later-not : (s : List ℕ) (f : Field) → NotOpen (callIn answerRoom false s f)
-unfolding laterCall
+later-not : (s : List ℕ) (f : Field) → NotOpen (operationIn false s f)
+unfolding laterOperation
 later-not s End = tt
 later-not s Cut = tt
 later-not s (Whole tag start n) =
     let p = payload s start n in
     chosen NotOpen (eqb tag 2) _ _ (λ e. tt) (λ e.
     chosen NotOpen (eqb tag 3) _ _ (λ e. delete-not p) (λ e.
-    chosen NotOpen (eqb tag 4) _ _ (λ e. retrieve-not answerRoom p) (λ e.
-    chosen NotOpen (eqb tag 5) _ _ (λ e. solve-not answerRoom p) (λ e. tt))))
+    chosen NotOpen (eqb tag 4) _ _ (λ e. retrieve-not p) (λ e.
+    chosen NotOpen (eqb tag 5) _ _ (λ e. solve-not p) (λ e. tt))))
 
-goes-on : (c : Call) (n : ℕ) → NotOpen (some c) → stopsAfter (some c) n ≡ false
-goes-on (openWith sig) n h = absurd h
-goes-on (insert t) n h = refl
-goes-on (delete s) n h = refl
-goes-on (withKey k room) n h = refl
-goes-on (retrieve r q room) n h = refl
-goes-on (solve s q room) n h = refl
+goes-on : (c : Operation) (n : ℕ) → NotOpen (some c) → stopsAfter (some c) n ≡ false
+goes-on (toOpen sig) n h = absurd h
+goes-on (toInsert t) n h = refl
+goes-on (toDelete s) n h = refl
+goes-on (toRetrieve r q) n h = refl
+goes-on (toSolve s q) n h = refl
 
-abbrev OnlyOpen : Option Call → Type 0
+abbrev OnlyOpen : Option Operation → Type 0
 OnlyOpen none = Unit {0}
-OnlyOpen (some c) = (sig : List ℕ) × (c ≡ openWith sig)
+OnlyOpen (some c) = (sig : List ℕ) × (c ≡ toOpen sig)
 
-first-only : (s : List ℕ) (f : Field) → OnlyOpen (callIn answerRoom true s f)
-unfolding firstCall
+first-only : (s : List ℕ) (f : Field) → OnlyOpen (operationIn true s f)
+unfolding firstOperation
 first-only s End = tt
 first-only s Cut = tt
 first-only s (Whole tag start n) = chosen OnlyOpen (eqb tag 1) _ _ (λ e. (payload s start n, refl)) (λ e. tt)
@@ -243,7 +239,7 @@ first-only s (Whole tag start n) = chosen OnlyOpen (eqb tag 1) _ _ (λ e. (paylo
 -- A TURN WITHOUT A CALL is the last, and shows LOG
 module _ (s : List ℕ) (at : ℕ) (T : Tables) (out line₀ : List ℕ) (S : Tables) (out′ line : List ℕ) (n next : ℕ) (rest : List ℕ)
     (e : length line₀ ≡ lineRoom) (t : Turned s at T out line₀ S out′ line n next) (r : Shown s next S out′ rest) where
-  log-shown : callAt (length out) s at ≡ none → take n line ++ rest ≡ textOf log ++ []
+  log-shown : operationAt s at ≡ none → take n line ++ rest ≡ textOf log ++ []
   log-shown c =
       let l : lineAt s at T out ≡ textOf log = rw c in
       let a : take n line ≡ textOf log = line-shown line₀ line (textOf log) n e (rw l at (t .text)) log-fits in
@@ -252,21 +248,21 @@ module _ (s : List ℕ) (at : ℕ) (T : Tables) (out line₀ : List ℕ) (S : Ta
       rw (a, d) refl
 
   -- a turn with a call shows its line
-  call-shown : (c : Call) (text : List ℕ) → callAt (length out) s at ≡ some c → lineOf (some c) (told out (carried T c)) ≡ text → length text ≤ lineRoom → take n line ≡ text
+  call-shown : (c : Operation) (text : List ℕ) → operationAt s at ≡ some c → lineOf (some c) (told out (carried T (libraryCall (length out) c))) ≡ text → length text ≤ lineRoom → take n line ≡ text
   call-shown c text k m h =
       let l : lineAt s at T out ≡ text = rw k m in
       line-shown line₀ line text n e (rw l at (t .text)) h
 
-  tables-after : (c : Call) → callAt (length out) s at ≡ some c → S ≡ carried T c .after
+  tables-after : (c : Operation) → operationAt s at ≡ some c → S ≡ carried T (libraryCall (length out) c) .after
   tables-after c k = t .tables ∙ rw k refl
 
   room-after : length out′ ≡ length out
-  room-after = ap length (t .buffer) ∙ length-sets out 0 (written (resultOf T (callAt (length out) s at) .answer))
+  room-after = ap length (t .buffer) ∙ length-sets out 0 (written (resultOf (length out) T (operationAt s at) .answer))
 
-  next-after : (c : Call) → callAt (length out) s at ≡ some c → stopsAfter (some c) (refusalIn (carried T c .answer)) ≡ false → next ≡ placePast s at
+  next-after : (c : Operation) → operationAt s at ≡ some c → stopsAfter (some c) (refusalIn (carried T (libraryCall (length out) c) .answer)) ≡ false → next ≡ placePast s at
   next-after c k h = t .place ∙ rw (k, h) refl
 
-  next-stops : (c : Call) → callAt (length out) s at ≡ some c → stopsAfter (some c) (refusalIn (carried T c .answer)) ≡ true → next ≡ length s
+  next-stops : (c : Operation) → operationAt s at ≡ some c → stopsAfter (some c) (refusalIn (carried T (libraryCall (length out) c) .answer)) ≡ true → next ≡ length s
   next-stops c k h = t .place ∙ rw (k, h) refl
 
 -- THE FIELDS AFTER THE SIGNATURE
@@ -275,20 +271,20 @@ later-prints : (s : List ℕ) → length s ≤ inputLimit → (at : ℕ) (T : Ta
 unfolding laterLines textOfAll
 later-prints s short at T out text st (ended a U o h) z d room = rw (fields-none s at h) refl
 later-prints s short at T out text st (turning a U o line₀ S out′ line n next rest h e t r) z d room =
-    rw (fields-more s at h) (go (λ u y x v. later-prints s short next S out′ rest u r y x v) (callIn answerRoom false s (fieldAt s at)) refl (field-lent answerRoom false s (fieldAt s at)) (later-not s (fieldAt s at)))
+    rw (fields-more s at h) (go (λ u y x v. later-prints s short next S out′ rest u r y x v) (operationIn false s (fieldAt s at)) refl (later-not s (fieldAt s at)))
   where
     go : ((u : Store) → (next ≡ 0 → ⊥) → Stand S u → length out′ ≡ answerRoom → rest ≡ textOfAll (laterLines s u (fieldsFrom s next)))
-        → (c : Option Call) → callIn answerRoom false s (fieldAt s at) ≡ c → Lent answerRoom c → NotOpen c
+        → (c : Option Operation) → operationIn false s (fieldAt s at) ≡ c → NotOpen c
         → take n line ++ rest ≡ textOfAll (lineThen st c (laterLines s (moved st c) (fieldsFrom s (placeAfter s at))))
-    go again none q l o = log-shown s at T out line₀ S out′ line n next rest e t r (call-later s at out short room z ∙ q)
-    go again (some c) q l o =
-        let k : callAt (length out) s at ≡ some c = call-later s at out short room z ∙ q in
-        let b : take n line ≡ answerText c (answered st c) =
-        call-shown s at T out line₀ S out′ line n next rest e t r c (answerText c (answered st c)) k (line-answer T st c out d (omega (arith, l, room))) (answer-fits st c l) in
-        let p : next ≡ placeAfter s at = next-after s at T out line₀ S out′ line n next rest e t r c k (goes-on c (refusalIn (carried T c .answer)) o) ∙ past-is s at out short room in
+    go again none q o = log-shown s at T out line₀ S out′ line n next rest e t r (call-later s at short z ∙ q)
+    go again (some c) q o =
+        let k : operationAt s at ≡ some c = call-later s at short z ∙ q in
+        let b : take n line ≡ answerText c (answered st (libraryCall answerRoom c)) =
+        call-shown s at T out line₀ S out′ line n next rest e t r c (answerText c (answered st (libraryCall answerRoom c))) k (line-answer T st c out d room) (answer-fits st c) in
+        let p : next ≡ placeAfter s at = next-after s at T out line₀ S out′ line n next rest e t r c k (goes-on c (refusalIn (carried T (libraryCall (length out) c) .answer)) o) ∙ past-is s at short in
         let w = taken-onward s at (takenAt s at) h refl in
-        let i = again (after st c) (λ y. omega (arith, w .on))
-        (rw (tables-after s at T out line₀ S out′ line n next rest e t r c k) (call-means T st c d .stand))
+        let i = again (after st (libraryCall answerRoom c)) (λ y. omega (arith, w .on))
+        (rw (tables-after s at T out line₀ S out′ line n next rest e t r c k) (stand-after T st c (length out) room d))
         (room-after s at T out line₀ S out′ line n next rest e t r ∙ room) in
         rw (b, i, p) refl
 
@@ -303,49 +299,49 @@ module _ (T : Tables) (sig : List ℕ) (a : ample T ≡ true) where
   opens-stand : sigRefusal sig ≡ 0 → Stand (opening T sig .after) (empty sig)
   opens-stand z = open-run T sig [] (told [] (opening T sig)) opens (opens-number ∙ z)
 
-signature-line : (sig : List ℕ) → pick (eqb (sigRefusal sig) 0) (plainLine (wordOf (openWith sig))) (refusedLine (wordOf (openWith sig)) (sigRefusal sig)) ≡ answerText (openWith sig) (answered unopened (openWith sig))
+signature-line : (sig : List ℕ) → pick (eqb (sigRefusal sig) 0) (plainLine (wordOf (toOpen sig))) (refusedLine (wordOf (toOpen sig)) (sigRefusal sig)) ≡ answerText (toOpen sig) (answered unopened (openWith sig))
 unfolding answered
 signature-line sig = go (eqb (sigRefusal sig) 0) refl
   where
-    go : (b : Bool) → eqb (sigRefusal sig) 0 ≡ b → pick b (plainLine (wordOf (openWith sig))) (refusedLine (wordOf (openWith sig)) (sigRefusal sig)) ≡ answerText (openWith sig) (pick b (done 0 0 []) (refused 2))
+    go : (b : Bool) → eqb (sigRefusal sig) 0 ≡ b → pick b (plainLine (wordOf (toOpen sig))) (refusedLine (wordOf (toOpen sig)) (sigRefusal sig)) ≡ answerText (toOpen sig) (pick b (done 0 0 []) (refused 2))
     go true e = refl
-    go false e = ap (refusedLine (wordOf (openWith sig))) (signature-two sig (eqb-false (sigRefusal sig) 0 e))
+    go false e = ap (refusedLine (wordOf (toOpen sig))) (signature-two sig (eqb-false (sigRefusal sig) 0 e))
 
 first-prints : (s : List ℕ) → length s ≤ inputLimit → (at : ℕ) (T : Tables) (out text : List ℕ) → Shown s at T out text → at ≡ 0 → ample T ≡ true → length out ≡ answerRoom
     → text ≡ textOfAll (firstLines s (fieldsFrom s at))
 unfolding firstLines textOfAll answered after
 first-prints s short at T out text (ended a U o h) z d room = rw (fields-none s at h) refl
 first-prints s short at T out text (turning a U o line₀ S out′ line n next rest h e t r) z d room =
-    rw (fields-more s at h) (go (callIn answerRoom true s (fieldAt s at)) refl (first-only s (fieldAt s at)))
+    rw (fields-more s at h) (go (operationIn true s (fieldAt s at)) refl (first-only s (fieldAt s at)))
   where
-    opened : (sig : List ℕ) → callAt (length out) s at ≡ some (openWith sig) → (b : Bool) → eqb (sigRefusal sig) 0 ≡ b
+    opened : (sig : List ℕ) → operationAt s at ≡ some (toOpen sig) → (b : Bool) → eqb (sigRefusal sig) 0 ≡ b
         → rest ≡ textOfAll (unless (pick b (done 0 0 []) (refused 2)) [] (laterLines s (unless (pick b (done 0 0 []) (refused 2)) unopened (empty sig)) (fieldsFrom s (placeAfter s at))))
     opened sig k true f =
         let y : sigRefusal sig ≡ 0 = eqb-true (sigRefusal sig) 0 f in
         let m : eqb (refusalIn (opening T sig .answer)) 0 ≡ true = rw (opens-number T sig d) f in
-        let p : next ≡ placeAfter s at = next-after s at T out line₀ S out′ line n next rest e t r (openWith sig) k (rw m refl) ∙ past-is s at out short room in
+        let p : next ≡ placeAfter s at = next-after s at T out line₀ S out′ line n next rest e t r (toOpen sig) k (rw m refl) ∙ past-is s at short in
         let w = taken-onward s at (takenAt s at) h refl in
-        let i = later-prints s short next S out′ rest (empty sig) r (λ q. omega (arith, w .on)) (rw (tables-after s at T out line₀ S out′ line n next rest e t r (openWith sig) k) (opens-stand T sig d y)) (room-after s at T out line₀ S out′ line n next rest e t r ∙ room) in
+        let i = later-prints s short next S out′ rest (empty sig) r (λ q. omega (arith, w .on)) (rw (tables-after s at T out line₀ S out′ line n next rest e t r (toOpen sig) k) (opens-stand T sig d y)) (room-after s at T out line₀ S out′ line n next rest e t r ∙ room) in
         rw (i, p) refl
     opened sig k false f =
         let m : eqb (refusalIn (opening T sig .answer)) 0 ≡ false = rw (opens-number T sig d) f in
-        let p : next ≡ length s = next-stops s at T out line₀ S out′ line n next rest e t r (openWith sig) k (rw m refl) in
+        let p : next ≡ length s = next-stops s at T out line₀ S out′ line n next rest e t r (toOpen sig) k (rw m refl) in
         shown-end s next S out′ rest r (omega arith)
 
-    go : (c : Option Call) → callIn answerRoom true s (fieldAt s at) ≡ c → OnlyOpen c
+    go : (c : Option Operation) → operationIn true s (fieldAt s at) ≡ c → OnlyOpen c
         → take n line ++ rest ≡ textOfAll (lineThen unopened c (unlessRefused unopened c (laterLines s (moved unopened c) (fieldsFrom s (placeAfter s at)))))
-    go none q o = log-shown s at T out line₀ S out′ line n next rest e t r (call-first s at out short room z ∙ q)
+    go none q o = log-shown s at T out line₀ S out′ line n next rest e t r (call-first s at short z ∙ q)
     go (some c) q o =
         let sig = o .0 in
-        let k : callAt (length out) s at ≡ some (openWith sig) = call-first s at out short room z ∙ (q ∙ ap (λ x. some x) (o .1)) in
-        let m : lineOf (some (openWith sig)) (told out (carried T (openWith sig))) ≡ answerText (openWith sig) (answered unopened (openWith sig)) = rw (opens-number T sig d) (signature-line sig) in
-        let b : take n line ≡ answerText (openWith sig) (answered unopened (openWith sig)) =
-        call-shown s at T out line₀ S out′ line n next rest e t r (openWith sig) _ k m (answer-fits unopened (openWith sig) (omega arith)) in
+        let k : operationAt s at ≡ some (toOpen sig) = call-first s at short z ∙ (q ∙ ap (λ x. some x) (o .1)) in
+        let m : lineOf (some (toOpen sig)) (told out (carried T (openWith sig))) ≡ answerText (toOpen sig) (answered unopened (openWith sig)) = rw (opens-number T sig d) (signature-line sig) in
+        let b : take n line ≡ answerText (toOpen sig) (answered unopened (openWith sig)) =
+        call-shown s at T out line₀ S out′ line n next rest e t r (toOpen sig) _ k m (answer-fits unopened (toOpen sig)) in
         rw (o .1, b, opened sig k (eqb (sigRefusal sig) 0) refl) refl
 
-no-call : (s : List ℕ) (at room : ℕ) → inputLimit < length s → callAt room s at ≡ none
-unfolding callAt
-no-call s at room h = rw (lt-ltb inputLimit (length s) h)
+no-call : (s : List ℕ) (at : ℕ) → inputLimit < length s → operationAt s at ≡ none
+unfolding operationAt
+no-call s at h = rw (lt-ltb inputLimit (length s) h)
 
 only-log : textOfAll (log ∷ []) ≡ textOf log ++ []
 unfolding textOfAll
@@ -353,7 +349,7 @@ only-log = refl
 
 long-prints : (s : List ℕ) (at : ℕ) (T : Tables) (out text : List ℕ) → inputLimit < length s → Shown s at T out text → at ≡ 0 → text ≡ textOf log ++ []
 long-prints s at T out text h (ended x U o l) z = absurd (omega arith)
-long-prints s at T out text h (turning x U o line₀ S out′ line n next rest l e t r) z = log-shown s at T out line₀ S out′ line n next rest e t r (no-call s at (length out) h)
+long-prints s at T out text h (turning x U o line₀ S out′ line n next rest l e t r) z = log-shown s at T out line₀ S out′ line n next rest e t r (no-call s at h)
 
 -- THE PROGRAM PRINTS `printed` of its input, from any memory that is long enough
 pub prints : (s : List ℕ) (T : Tables) (out text : List ℕ) → ample T ≡ true → length out ≡ answerRoom

@@ -8,18 +8,17 @@ use Rattle.calls.specs.declared.Reply.{Reply}
 use Rattle.calls.specs.declared.Reply.the-variants.{Done, Refused}
 use Rattle.orders.specs.declared.Order.{Order}
 use Rattle.orders.specs.declared.Order.the-variants.{Open, Insert, Delete, WithKey, Retrieve, Solve, Nothing}
-use Rattle.library.specs.Store.{openWith, insert, delete, withKey, retrieve, solve}
 use Rattle.log.specs.Lines.{plainLine, refusedLine, slotLine, foundLine, solvedLine}
-use Rattle.turns.specs.Printed.{wordOf, logWord}
+use Rattle.turns.specs.Printed.{toOpen, toInsert, toDelete, toRetrieve, toSolve, wordOf, logWord}
 
--- the word of an order; it does not depend on the call's bytes
+-- the word of an order; it does not depend on the operation's bytes, and no field orders a key question
 abbrev pub spokenWord : Order → List ℕ
-spokenWord Open = wordOf (openWith [])
-spokenWord Insert = wordOf (insert [])
-spokenWord (Delete s) = wordOf (delete s)
-spokenWord WithKey = wordOf (withKey [] 0)
-spokenWord (Retrieve r) = wordOf (retrieve r [] 0)
-spokenWord (Solve s) = wordOf (solve s [] 0)
+spokenWord Open = wordOf (toOpen [])
+spokenWord Insert = wordOf (toInsert [])
+spokenWord (Delete s) = wordOf (toDelete s)
+spokenWord WithKey = logWord
+spokenWord (Retrieve r) = wordOf (toRetrieve r [])
+spokenWord (Solve s) = wordOf (toSolve s [])
 spokenWord Nothing = logWord
 
 abbrev pub spokenDone : Order → List ℕ → ℕ → ℕ → List ℕ → List ℕ

@@ -11,8 +11,8 @@ ghost use Prim.Native.Nat.{ℕ, _≤_, _<_, _-_};
 ghost use lib.ListN.{length, drop};
 ghost use lib.Dec.{eqb};
 ghost use Rattle.laws.specs.Choice.{pick};
-ghost use Rattle.turns.specs.Printed.{firstCall, laterCall, deleteCall, retrieveCall, solveCall, payload};
-ghost use Rattle.turns.specs.Turns.{fixedPart, callOf, Ordered, callAt, placePast};
+ghost use Rattle.turns.specs.Printed.{firstOperation, laterOperation, deleteOperation, retrieveOperation, solveOperation, payload};
+ghost use Rattle.turns.specs.Turns.{fixedPart, InLog, operationOf, Ordered, operationAt, placePast};
 
 // An order, where the rest of its payload starts and ends, which is where the next field starts.
 pub struct Task {
@@ -23,7 +23,7 @@ pub struct Task {
 
 // Tag 3: exactly two bytes of slot.
 fn delete_order(payload: &[u8]) -> Order
-    ensures { λ r. ⌜ ((room : ℕ) → Ordered room r (now (payload .entry)) (deleteCall (now (payload .entry)))) ⌝ }
+    ensures { λ r. ⌜ Ordered r (now (payload .entry)) (deleteOperation (now (payload .entry))) ⌝ }
 {
     if payload.len() == 2 {
         return Order::Delete(number_at(payload, 0));
@@ -33,7 +33,7 @@ fn delete_order(payload: &[u8]) -> Order
 
 // Tag 4: one byte of relation, and a term.
 fn retrieve_order(payload: &[u8]) -> Order
-    ensures { λ r. ⌜ ((room : ℕ) → Ordered room r (now (payload .entry)) (retrieveCall room (now (payload .entry)))) ⌝ }
+    ensures { λ r. ⌜ Ordered r (now (payload .entry)) (retrieveOperation (now (payload .entry))) ⌝ }
 {
     if 1 <= payload.len() {
         return Order::Retrieve(wide(payload[0]));
@@ -43,7 +43,7 @@ fn retrieve_order(payload: &[u8]) -> Order
 
 // Tag 5: two bytes of slot, and a term.
 fn solve_order(payload: &[u8]) -> Order
-    ensures { λ r. ⌜ ((room : ℕ) → Ordered room r (now (payload .entry)) (solveCall room (now (payload .entry)))) ⌝ }
+    ensures { λ r. ⌜ Ordered r (now (payload .entry)) (solveOperation (now (payload .entry))) ⌝ }
 {
     if 2 <= payload.len() {
         return Order::Solve(number_at(payload, 0));
@@ -53,7 +53,7 @@ fn solve_order(payload: &[u8]) -> Order
 
 // A field after the first, which is no signature.
 fn later_order(tag: u8, payload: &[u8]) -> Order
-    ensures { λ r. ⌜ ((room : ℕ) → Ordered room r (now (payload .entry)) (laterCall room tag (now (payload .entry)))) ⌝ }
+    ensures { λ r. ⌜ Ordered r (now (payload .entry)) (laterOperation tag (now (payload .entry))) ⌝ }
 {
     match tag {
         2 => Order::Insert,
@@ -66,8 +66,8 @@ fn later_order(tag: u8, payload: &[u8]) -> Order
 
 // The first field is a signature, and no other is.
 fn order_of(first: bool, tag: u8, payload: &[u8]) -> Order
-    ensures { λ r. ⌜ ((room : ℕ) → Ordered room r (now (payload .entry))
-        (pick first (firstCall tag (now (payload .entry))) (laterCall room tag (now (payload .entry))))) ⌝ }
+    ensures { λ r. ⌜ Ordered r (now (payload .entry))
+        (pick first (firstOperation tag (now (payload .entry))) (laterOperation tag (now (payload .entry)))) ⌝ }
 {
     if !first {
         return later_order(tag, payload);
@@ -97,8 +97,9 @@ fn fixed(order: Order) -> usize
 pub fn task_at(input: &[u8], at: usize) -> Task
     ensures { λ r. ⌜ (r .start ≤ r .end) × (r .end ≤ length (now (input .entry)))
         × (r .end ≡ placePast (now (input .entry)) at)
-        × ((room : ℕ) → callOf room (r .order) (payload (now (input .entry)) (r .start) (r .end - r .start))
-        ≡ callAt room (now (input .entry)) at) ⌝ }
+        × InLog (r .order)
+        × (operationOf (r .order) (payload (now (input .entry)) (r .start) (r .end - r .start))
+        ≡ operationAt (now (input .entry)) at) ⌝ }
 {
     if INPUT < input.len() {
         return Task {

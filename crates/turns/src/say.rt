@@ -31,7 +31,7 @@ fn word_of(order: Order) -> Word
             length: 6,
         },
         Order::WithKey => Word {
-            letters: *b"key     ",
+            letters: *b"log     ",
             length: 3,
         },
         Order::Retrieve(_) => Word {

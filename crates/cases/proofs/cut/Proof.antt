@@ -3,22 +3,16 @@ use native.Mathlib.Omega.{arith}
 use borrow.Author.Needs.{needs}
 use Rattle.cases.proofs.cut.Statement.{statement}
 use Rattle.cases.proofs.cut.Tie as tie
-use Rattle.cases.proofs.cut.Reads as reads
-use Rattle.cases.proofs.cut.Lts as lts
 
--- src/main.rt:58:9
 returns : tie.Need-returns
 returns c = (cut-other _ _ _ ((c .if1) .taken), omega arith)
 
--- src/main.rt:60:28
 sub-result : tie.Need-sub-result
 sub-result c = search needs
 
--- src/main.rt:54:1
 returns-2 : tie.Need-returns-2
 returns-2 c = (cut-short ((c .before .before) .args .short) ((c .before .before) .args .table) ((c .before .before) .args .n) _ (omega (arith, (c .before .if1) .left)) (omega (arith, (c .if2) .taken)), omega arith)
 
--- src/main.rt:54:1
 returns-3 : tie.Need-returns-3
 returns-3 c = (cut-short ((c .before .before) .args .short) ((c .before .before) .args .table) ((c .before .before) .args .n) _ (omega (arith, (c .before .if1) .left)) (omega (arith, (c .if2) .left)), omega arith)
 

@@ -3,27 +3,19 @@ use native.Mathlib.Omega.{arith}
 use borrow.Author.Needs.{needs}
 use Rattle.cases.proofs.place_after.Statement.{statement}
 use Rattle.cases.proofs.place_after.Tie as tie
-use Rattle.cases.proofs.place_after.Reads as reads
-use Rattle.cases.proofs.place_after.Lts as lts
-use Rattle.cases.proofs.room_after.Reads as room-after-reads
 
--- src/main.rt:158:20
 add-t7 : tie.Need-add-t7
 add-t7 c = search needs
 
--- src/main.rt:156:9
 returns : tie.Need-returns
 returns c = (place-again ((c .before) .args .case) ((c .before) .args .place) ((c .if1) .taken), omega arith, omega arith, omega arith)
 
--- src/main.rt:166:15
 room-after-requires : tie.Need-room-after-requires
 room-after-requires c κs = search needs
 
--- src/main.rt:150:1
 returns-2 : tie.Need-returns-2
 returns-2 c = (place-next ((c .before .before .before) .args .case) ((c .before .before .before) .args .place) _ _ (omega (arith, (c .before .before .if1) .left)) ((c .before .room-after) .ensures .0) (short-set _ _ _ ((c .if2) .taken)), omega arith, omega arith, omega arith)
 
--- src/main.rt:150:1
 returns-3 : tie.Need-returns-3
 returns-3 c = (place-next ((c .before .before .before) .args .case) ((c .before .before .before) .args .place) _ _ (omega (arith, (c .before .before .if1) .left)) ((c .before .room-after) .ensures .0) (short-kept _ ((c .before .before .before) .args .case .number) _ ((c .if2) .left)), omega arith, omega arith, omega arith)
 

@@ -2,46 +2,34 @@ use mathlib.Core.Path.{sym, refl}
 use Rattle.cases.proofs.Saying.{order-known, order-rest}
 use Rattle.cases.proofs.say.order_of.Statement.{statement}
 use Rattle.cases.proofs.say.order_of.Tie as tie
-use Rattle.cases.proofs.say.order_of.Reads as reads
-use Rattle.cases.proofs.say.order_of.Lts as lts
 
--- src/say.rt:15:1
 returns : tie.Need-returns
 returns c = order-known _ _ _ _ (c .match .keys1) refl
 
--- src/say.rt:15:1
 returns-2 : tie.Need-returns-2
 returns-2 c = order-known _ _ _ _ (c .match .keys2) refl
 
--- src/say.rt:15:1
 returns-3 : tie.Need-returns-3
 returns-3 c = order-known _ _ _ _ (c .match .keys3) refl
 
--- src/say.rt:15:1
 returns-4 : tie.Need-returns-4
 returns-4 c = order-known _ _ _ _ (c .match .keys4) refl
 
--- src/say.rt:15:1
 returns-5 : tie.Need-returns-5
 returns-5 c = order-known _ _ _ _ (c .match .keys5) refl
 
--- src/say.rt:15:1
 returns-6 : tie.Need-returns-6
 returns-6 c = order-known _ _ _ _ (c .match .keys6) refl
 
--- src/say.rt:15:1
 returns-7 : tie.Need-returns-7
 returns-7 c = order-known _ _ _ _ (c .match .keys7) refl
 
--- src/say.rt:15:1
 returns-8 : tie.Need-returns-8
 returns-8 c = order-known _ _ _ _ (c .match .keys8) refl
 
--- src/say.rt:15:1
 returns-9 : tie.Need-returns-9
 returns-9 c = order-known _ _ _ _ (c .match .keys9) refl
 
--- src/say.rt:15:1
 returns-10 : tie.Need-returns-10
 returns-10 c = order-rest _ _ (c .match .rest .0 .0 .0 .0 .0 .0 .0 .0 .1) (c .match .rest .0 .0 .0 .0 .0 .0 .0 .1) (c .match .rest .0 .0 .0 .0 .0 .0 .1) (c .match .rest .0 .0 .0 .0 .0 .1) (c .match .rest .0 .0 .0 .0 .1) (c .match .rest .0 .0 .0 .1) (c .match .rest .0 .0 .1) (c .match .rest .0 .1) (c .match .rest .1)
 

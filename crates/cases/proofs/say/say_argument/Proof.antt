@@ -4,50 +4,34 @@ use Rattle.cases.proofs.Saying.{argument-no, argument-yes}
 use borrow.Author.Needs.{needs}
 use Rattle.cases.proofs.say.say_argument.Statement.{statement}
 use Rattle.cases.proofs.say.say_argument.Tie as tie
-use Rattle.cases.proofs.say.say_argument.Reads as reads
-use Rattle.cases.proofs.say.say_argument.Lts as lts
-use Rattle.log.proofs.refused_line.Reads as refused-line-reads
-use Rattle.log.proofs.solved_line.Reads as solved-line-reads
-use Rattle.terms.proofs.argument.Reads as argument-reads
-use Rattle.terms.proofs.argument_refusal.Reads as argument-refusal-reads
 
--- src/say.rt:81:43
 slice-aggregate-argument-refusal : tie.Need-slice-aggregate-argument-refusal
 slice-aggregate-argument-refusal c = search needs
 
--- src/say.rt:81:9
 argument-refusal-requires : tie.Need-argument-refusal-requires
 argument-refusal-requires c κs = search needs
 
--- src/say.rt:83:9
 refused-line-requires : tie.Need-refused-line-requires
 refused-line-requires c κs = search needs
 
--- src/say.rt:83:9
 same-length : tie.Need-same-length
 same-length c = put-length ((c .before .before .refused-line) .ensures)
 
--- src/say.rt:83:9
 returns : tie.Need-returns
 returns c = argument-no _ _ _ _ _ _ _ ((c .before .before .before .before .before .argument-refusal) .ensures) ((c .before .before .before .before .if1) .taken) ((c .before .before .refused-line) .ensures)
 
--- src/say.rt:85:32
 slice-aggregate-argument : tie.Need-slice-aggregate-argument
 slice-aggregate-argument c = search needs
 
--- src/say.rt:85:9
 argument-requires : tie.Need-argument-requires
 argument-requires c κs = search needs
 
--- src/say.rt:86:5
 solved-line-requires : tie.Need-solved-line-requires
 solved-line-requires c κs = search needs
 
--- src/say.rt:76:1
 same-length-2 : tie.Need-same-length-2
 same-length-2 c = put-length ((c .before .before .solved-line) .ensures)
 
--- src/say.rt:76:1
 returns-2 : tie.Need-returns-2
 returns-2 c = argument-yes _ _ _ _ _ _ _ _ ((c .before .before .before .before .before .before .before .argument-refusal) .ensures) (omega (arith, (c .before .before .before .before .before .before .if1) .left)) ((c .before .before .before .before .argument) .ensures .0) ((c .before .before .solved-line) .ensures)
 

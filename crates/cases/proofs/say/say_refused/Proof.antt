@@ -4,36 +4,25 @@ use Rattle.cases.proofs.Saying.{refusal-some, refusal-argument, refusal
 use borrow.Author.Needs.{needs}
 use Rattle.cases.proofs.say.say_refused.Statement.{statement}
 use Rattle.cases.proofs.say.say_refused.Tie as tie
-use Rattle.cases.proofs.say.say_refused.Reads as reads
-use Rattle.cases.proofs.say.say_refused.Lts as lts
-use Rattle.cases.proofs.say.say_argument.Reads as say-argument-reads
-use Rattle.log.proofs.refused_line.Reads as refused-line-reads
 
--- src/say.rt:149:9
 refused-line-requires : tie.Need-refused-line-requires
 refused-line-requires c κs = search needs
 
--- src/say.rt:149:9
 same-length : tie.Need-same-length
 same-length c = put-length ((c .before .before .refused-line) .ensures)
 
--- src/say.rt:149:9
 returns : tie.Need-returns
 returns c = refusal-some _ _ _ ((c .before .before .before .before .before .before .before .before) .args .given .now) ((c .before .before .before .before .before .before .before .before) .args .case) _ _ ((c .before .before .before .before .if1) .taken) ((c .before .before .refused-line) .ensures)
 
--- src/say.rt:152:9
 say-argument-requires : tie.Need-say-argument-requires
 say-argument-requires c κs = search needs
 
--- src/say.rt:152:9
 same-length-2 : tie.Need-same-length-2
 same-length-2 c = put-length ((c .before .before .say-argument) .ensures)
 
--- src/say.rt:152:9
 returns-2 : tie.Need-returns-2
 returns-2 c = refusal-argument _ _ _ ((c .before .before .before .before .before .before .before .before .before .before) .args .given .now) ((c .before .before .before .before .before .before .before .before .before .before) .args .case) ((c .before .before .before .before .before .before .before .before .before .before) .args .number) _ (omega (arith, (c .before .before .before .before .before .before .if1) .left)) ((c .before .before .before .before .if2) .taken) ((c .before .before .say-argument) .ensures)
 
--- src/say.rt:144:1
 returns-3 : tie.Need-returns-3
 returns-3 c = refusal-none _ ((c .before .before .before .before .before .before) .args .head .now) ((c .before .before .before .before .before .before) .args .given .now) ((c .before .before .before .before .before .before) .args .case) ((c .before .before .before .before .before .before) .args .number) (omega (arith, (c .before .before .if1) .left)) ((c .if2) .left)
 

@@ -4,83 +4,61 @@ use Rattle.cases.proofs.Saying.{written-known}
 use borrow.Author.Needs.{needs}
 use Rattle.cases.proofs.say.written.Statement.{statement}
 use Rattle.cases.proofs.say.written.Tie as tie
-use Rattle.cases.proofs.say.written.Reads as reads
-use Rattle.cases.proofs.say.written.Lts as lts
-use Rattle.cases.proofs.say.least.Reads as least-reads
 
--- src/say.rt:94:40
 enum-told : tie.Need-enum-told
 enum-told c = search needs
 
--- src/say.rt:94:27
 least-requires : tie.Need-least-requires
 least-requires c κs = search needs
 
--- src/say.rt:94:27
 mul-result : tie.Need-mul-result
 mul-result c = search needs
 
--- src/say.rt:95:45
 enum-told-2 : tie.Need-enum-told-2
 enum-told-2 c = search needs
 
--- src/say.rt:95:31
 least-requires-2 : tie.Need-least-requires-2
 least-requires-2 c κs = search needs
 
--- src/say.rt:95:31
 mul-result-2 : tie.Need-mul-result-2
 mul-result-2 c = search needs
 
--- src/say.rt:96:28
 enum-told-3 : tie.Need-enum-told-3
 enum-told-3 c = search needs
 
--- src/say.rt:96:28
 least-requires-3 : tie.Need-least-requires-3
 least-requires-3 c κs = search needs
 
--- src/say.rt:97:24
 enum-told-4 : tie.Need-enum-told-4
 enum-told-4 c = search needs
 
--- src/say.rt:98:26
 enum-told-5 : tie.Need-enum-told-5
 enum-told-5 c = search needs
 
--- src/say.rt:99:29
 enum-told-6 : tie.Need-enum-told-6
 enum-told-6 c = search needs
 
--- src/say.rt:100:27
 enum-told-7 : tie.Need-enum-told-7
 enum-told-7 c = search needs
 
--- src/say.rt:90:1
 returns : tie.Need-returns
 returns c = let e = (c .least) .ensures in (written-known _ _ _ _ _ ((c .before .enum-told) .given .1) (rw e refl), omega (arith, e))
 
--- src/say.rt:90:1
 returns-2 : tie.Need-returns-2
 returns-2 c = let e = (c .least2) .ensures in (written-known _ _ _ _ _ ((c .before .enum-told2) .given .1) (rw e refl), omega (arith, e))
 
--- src/say.rt:90:1
 returns-3 : tie.Need-returns-3
 returns-3 c = let e = (c .least3) .ensures in (written-known _ _ _ _ _ ((c .before .enum-told3) .given .1) e, omega (arith, e))
 
--- src/say.rt:90:1
 returns-4 : tie.Need-returns-4
 returns-4 c = (written-known _ _ _ _ _ ((c .enum-told4) .given .1) refl, omega arith)
 
--- src/say.rt:90:1
 returns-5 : tie.Need-returns-5
 returns-5 c = (written-known _ _ _ _ _ ((c .enum-told5) .given .1) refl, omega arith)
 
--- src/say.rt:90:1
 returns-6 : tie.Need-returns-6
 returns-6 c = (written-known _ _ _ _ _ ((c .enum-told6) .given .1) refl, omega arith)
 
--- src/say.rt:90:1
 returns-7 : tie.Need-returns-7
 returns-7 c = (written-known _ _ _ _ _ ((c .enum-told7) .given .1) refl, omega arith)
 

@@ -3,32 +3,22 @@ use native.Mathlib.Omega.{arith}
 use borrow.Author.Needs.{needs}
 use Rattle.cases.proofs.text.grow.Statement.{statement}
 use Rattle.cases.proofs.text.grow.Tie as tie
-use Rattle.cases.proofs.text.grow.Reads as reads
-use Rattle.cases.proofs.text.grow.Lts as lts
-use Rattle.laws.proofs.low.Reads as low-reads
-use Rattle.std.proofs.num.wrapping_add_u8.Reads as wrapping-add-u8-reads
 
--- src/text.rt:125:9
 returns : tie.Need-returns
 returns c = grow-no _ ((c .before) .args .round) _ ((c .if1) .taken)
 
--- src/text.rt:127:42
 element-copy-out-wrapping-add-u8 : tie.Need-element-copy-out-wrapping-add-u8
 element-copy-out-wrapping-add-u8 c = search needs
 
--- src/text.rt:127:52
 low-requires : tie.Need-low-requires
 low-requires c κs = search needs
 
--- src/text.rt:127:16
 wrapping-add-u8-requires : tie.Need-wrapping-add-u8-requires
 wrapping-add-u8-requires c κs = search needs
 
--- src/text.rt:127:5
 element-write-given : tie.Need-element-write-given
 element-write-given c = search needs
 
--- src/text.rt:121:1
 returns-2 : tie.Need-returns-2
 returns-2 c = grow-yes ((c .before .before .before .before) .args .word) ((c .before .before .before .before) .args .round) ((c .before .before .before .before) .args .given .now) ((c .before .low) .result) ((c .wrapping-add-u8) .result) (omega (arith, (c .before .before .before .if1) .left)) ((c .before .low) .ensures) ((c .wrapping-add-u8) .ensures)
 

@@ -3,56 +3,40 @@ use native.Mathlib.Omega.{arith}
 use borrow.Author.Needs.{needs}
 use Rattle.cases.proofs.text.hex_at.Statement.{statement}
 use Rattle.cases.proofs.text.hex_at.Tie as tie
-use Rattle.cases.proofs.text.hex_at.Reads as reads
-use Rattle.cases.proofs.text.hex_at.Lts as lts
-use Rattle.cases.proofs.text.nibble.Reads as nibble-reads
-use Rattle.laws.proofs.low.Reads as low-reads
 
--- src/text.rt:98:9
 returns : tie.Need-returns
 returns c = hex-none ((c .before .before) .args .text .now) ((c .before .before) .args .at) ((c .before .before) .args .to) (omega (arith, (c .if1) .taken))
 
--- src/text.rt:100:8
 sub-if2 : tie.Need-sub-if2
 sub-if2 c = search needs
 
--- src/text.rt:101:9
 returns-2 : tie.Need-returns-2
 returns-2 c = hex-none ((c .before .before .before) .args .text .now) ((c .before .before .before) .args .at) ((c .before .before .before) .args .to) (omega (arith, (c .if2) .taken))
 
--- src/text.rt:103:16
 shared-slice-read-nibble : tie.Need-shared-slice-read-nibble
 shared-slice-read-nibble c = search needs
 
--- src/text.rt:103:9
 nibble-requires : tie.Need-nibble-requires
 nibble-requires c κs = search needs
 
--- src/text.rt:103:9
 mul-low : tie.Need-mul-low
 mul-low c = search needs
 
--- src/text.rt:103:45
 add-nibble : tie.Need-add-nibble
 add-nibble c = search needs
 
--- src/text.rt:103:40
 shared-slice-read-nibble-2 : tie.Need-shared-slice-read-nibble-2
 shared-slice-read-nibble-2 c = search needs
 
--- src/text.rt:103:33
 nibble-requires-2 : tie.Need-nibble-requires-2
 nibble-requires-2 c κs = search needs
 
--- src/text.rt:103:9
 add-low : tie.Need-add-low
 add-low c = search needs
 
--- src/text.rt:103:5
 low-requires : tie.Need-low-requires
 low-requires c κs = search needs
 
--- src/text.rt:93:1
 returns-3 : tie.Need-returns-3
 returns-3 c = hex-some ((c .before .before .before .before .before .before .before .before) .args .text .now) ((c .before .before .before .before .before .before .before .before) .args .at) ((c .before .before .before .before .before .before .before .before) .args .to) _ _ _ (omega (arith, (c .before .before .before .before .before .before .if1) .left, (c .before .before .before .before .before .if2) .left)) ((c .before .before .before .nibble) .ensures .0) ((c .before .nibble2) .ensures .0) ((c .low) .ensures)
 

@@ -4,31 +4,22 @@ use native.Mathlib.Omega.{arith}
 use borrow.Author.Needs.{needs}
 use Rattle.cases.proofs.text.left_after.Statement.{statement}
 use Rattle.cases.proofs.text.left_after.Tie as tie
-use Rattle.cases.proofs.text.left_after.Reads as reads
-use Rattle.cases.proofs.text.left_after.Lts as lts
-use Rattle.cases.proofs.text.repeats.Reads as repeats-reads
 
--- src/text.rt:151:9
 repeats-requires : tie.Need-repeats-requires
 repeats-requires c κs = search needs
 
--- src/text.rt:152:9
 returns : tie.Need-returns
 returns c = (left-once ((c .before .before) .args .word) ((c .before .before) .args .number) ((c .before .before) .args .round) ((c .before .repeats) .result) ((c .before .repeats) .ensures) (not-true ((c .before .repeats) .result) ((c .if1) .taken)), omega arith)
 
--- src/text.rt:155:9
 returns-2 : tie.Need-returns-2
 returns-2 c = (left-many ((c .before .before .before) .args .word) ((c .before .before .before) .args .number) ((c .before .before .before) .args .round) _ ((c .before .before .repeats) .result) ((c .before .before .repeats) .ensures) (not-false ((c .before .before .repeats) .result) ((c .before .if1) .left)) (omega (arith, (c .if2) .taken)), omega arith)
 
--- src/text.rt:157:5
 sub-result : tie.Need-sub-result
 sub-result c = search needs
 
--- src/text.rt:157:5
 sub-result-2 : tie.Need-sub-result-2
 sub-result-2 c = search needs
 
--- src/text.rt:147:1
 returns-3 : tie.Need-returns-3
 returns-3 c = (left-many ((c .before .before .before) .args .word) ((c .before .before .before) .args .number) ((c .before .before .before) .args .round) _ ((c .before .before .repeats) .result) ((c .before .before .repeats) .ensures) (not-false ((c .before .before .repeats) .result) ((c .before .if1) .left)) (omega (arith, (c .if2) .left)), omega arith)
 

@@ -3,23 +3,16 @@ use native.Mathlib.Omega.{arith}
 use borrow.Author.Needs.{needs}
 use Rattle.cases.proofs.text.nibble.Statement.{statement}
 use Rattle.cases.proofs.text.nibble.Tie as tie
-use Rattle.cases.proofs.text.nibble.Reads as reads
-use Rattle.cases.proofs.text.nibble.Lts as lts
-use Rattle.laws.proofs.wide.Reads as wide-reads
 
--- src/text.rt:88:9
 wide-requires : tie.Need-wide-requires
 wide-requires c κs = search needs
 
--- src/text.rt:89:34
 add-result : tie.Need-add-result
 add-result c = search needs
 
--- src/text.rt:85:1
 returns : tie.Need-returns
 returns c = (digit-low _ _ ((c .before .wide) .ensures .0) ((c .if1) .taken), omega arith)
 
--- src/text.rt:85:1
 returns-2 : tie.Need-returns-2
 returns-2 c = (digit-high ((c .before .before) .args .b) ((c .before .wide) .result) ((c .before .wide) .ensures .0) (omega (arith, (c .if1) .left)), omega arith)
 

@@ -3,26 +3,19 @@ use native.Mathlib.Omega.{arith}
 use borrow.Author.Needs.{needs}
 use Rattle.cases.proofs.text.past_blank.Statement.{statement}
 use Rattle.cases.proofs.text.past_blank.Tie as tie
-use Rattle.cases.proofs.text.past_blank.Reads as reads
-use Rattle.cases.proofs.text.past_blank.Lts as lts
 
--- src/text.rt:48:12
 shared-slice-read-if2 : tie.Need-shared-slice-read-if2
 shared-slice-read-if2 c = search needs
 
--- src/text.rt:49:20
 add-result : tie.Need-add-result
 add-result c = search needs
 
--- src/text.rt:49:13
 returns : tie.Need-returns
 returns c = (blank-yes ((c .before .before .before) .args .text .now) _ ((c .if2) .taken), omega arith, omega arith)
 
--- src/text.rt:43:1
 returns-2 : tie.Need-returns-2
 returns-2 c = (blank-no ((c .before .before .before) .args .text .now) _ ((c .if2) .left), omega arith, omega arith)
 
--- src/text.rt:43:1
 returns-3 : tie.Need-returns-3
 returns-3 c = (blank-over ((c .before) .args .text .now) ((c .before) .args .at) (omega (arith, (c .if1) .left)), omega arith, omega arith)
 

@@ -2,18 +2,13 @@ use Rattle.cases.proofs.Reading.{repeat-known, repeat-rest}
 use mathlib.Core.Path.{refl}
 use Rattle.cases.proofs.text.repeats.Statement.{statement}
 use Rattle.cases.proofs.text.repeats.Tie as tie
-use Rattle.cases.proofs.text.repeats.Reads as reads
-use Rattle.cases.proofs.text.repeats.Lts as lts
 
--- src/text.rt:136:1
 returns : tie.Need-returns
 returns c = repeat-known _ _ (c .match .keys1) refl
 
--- src/text.rt:136:1
 returns-2 : tie.Need-returns-2
 returns-2 c = repeat-known _ _ (c .match .keys2) refl
 
--- src/text.rt:136:1
 returns-3 : tie.Need-returns-3
 returns-3 c = repeat-rest _ (c .match .rest .0 .1) (c .match .rest .1)
 

@@ -2,23 +2,16 @@ use Rattle.cases.proofs.Reading.{word-none, word-some}
 use borrow.Author.Needs.{needs}
 use Rattle.cases.proofs.text.word_at.Statement.{statement}
 use Rattle.cases.proofs.text.word_at.Tie as tie
-use Rattle.cases.proofs.text.word_at.Reads as reads
-use Rattle.cases.proofs.text.word_at.Lts as lts
-use Rattle.cases.proofs.text.byte_at.Reads as byte-at-reads
 
--- src/text.rt:176:8
 shared-slice-read-if1 : tie.Need-shared-slice-read-if1
 shared-slice-read-if1 c = search needs
 
--- src/text.rt:177:9
 returns : tie.Need-returns
 returns c = word-none ((c .before .before .before) .args .text .now) ((c .before .before .before) .args .at) ((c .before .before .before) .args .second) ((c .if1) .taken)
 
--- src/text.rt:179:5
 byte-at-requires : tie.Need-byte-at-requires
 byte-at-requires c κs = search needs
 
--- src/text.rt:172:1
 returns-2 : tie.Need-returns-2
 returns-2 c = word-some ((c .before .before .before .before) .args .text .now) ((c .before .before .before .before) .args .at) ((c .before .before .before .before) .args .second) _ ((c .before .if1) .left) ((c .byte-at) .ensures)
 

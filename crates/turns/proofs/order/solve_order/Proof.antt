@@ -3,21 +3,15 @@ use Rattle.turns.proofs.Tasks.{solve-two, solve-other}
 use borrow.Author.Needs.{needs}
 use Rattle.turns.proofs.order.solve_order.Statement.{statement}
 use Rattle.turns.proofs.order.solve_order.Tie as tie
-use Rattle.turns.proofs.order.solve_order.Reads as reads
-use Rattle.turns.proofs.order.solve_order.Lts as lts
-use Rattle.laws.proofs.number_at.Reads as number-at-reads
 
--- src/order.rt:49:29
 number-at-requires : tie.Need-number-at-requires
 number-at-requires c κs = search needs
 
--- src/order.rt:49:9
 returns : tie.Need-returns
-returns c = λ room. solve-two room _ _ (omega (arith, (c .before .if1) .taken)) ((c .number-at) .ensures .0)
+returns c = solve-two _ _ (omega (arith, (c .before .if1) .taken)) ((c .number-at) .ensures .0)
 
--- src/order.rt:45:1
 returns-2 : tie.Need-returns-2
-returns-2 c = λ room. solve-other room _ (λ e. omega (arith, (c .if1) .left, e))
+returns-2 c = solve-other _ (λ e. omega (arith, (c .if1) .left, e))
 
 pub solve-order-spec : {M : Type 1} → statement M
 solve-order-spec = tie.close (tie.spec number-at-requires returns returns-2)

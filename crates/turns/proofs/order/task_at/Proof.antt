@@ -5,67 +5,48 @@ use Rattle.turns.proofs.Tasks.{task-long, task-none, task-whole}
 use borrow.Author.Needs.{needs}
 use Rattle.turns.proofs.order.task_at.Statement.{statement}
 use Rattle.turns.proofs.order.task_at.Tie as tie
-use Rattle.turns.proofs.order.task_at.Reads as reads
-use Rattle.turns.proofs.order.task_at.Lts as lts
-use Rattle.log.proofs.read.Reads as read-reads
-use Rattle.turns.proofs.order.fixed.Reads as fixed-reads
-use Rattle.turns.proofs.order.order_of.Reads as order-of-reads
 
--- src/order.rt:104:9
 returns : tie.Need-returns
-returns c = let t = task-long _ _ ((c .if1) .taken) in (t .ordered, t .within, t .past, t .call)
+returns c = let t = task-long _ _ ((c .if1) .taken) in (t .ordered, t .within, t .past, t .logged, t .operation)
 
--- src/order.rt:110:9
 read-requires : tie.Need-read-requires
 read-requires c κs = search needs
 
--- src/order.rt:115:20
 enum-told : tie.Need-enum-told
 enum-told c = search needs
 
--- src/order.rt:120:20
 enum-told-2 : tie.Need-enum-told-2
 enum-told-2 c = search needs
 
--- src/order.rt:125:13
 enum-known-field : tie.Need-enum-known-field
 enum-known-field c = search needs
 
--- src/order.rt:129:48
 sub-order-of : tie.Need-sub-order-of
 sub-order-of c = let w = taken-whole _ _ _ _ _ _ ((c .before .before .before .read) .ensures) ((c .before .field) .given .1) in omega (arith, w .inside .starts, w .place-is)
 
--- src/order.rt:129:48
 part-order-of-start : tie.Need-part-order-of-start
 part-order-of-start c = let w = taken-whole _ _ _ _ _ _ ((c .before .before .before .read) .ensures) ((c .before .field) .given .1) in omega (arith, w .inside .starts, w .place-is)
 
--- src/order.rt:129:48
 part-order-of-end : tie.Need-part-order-of-end
 part-order-of-end c = let w = taken-whole _ _ _ _ _ _ ((c .before .before .before .read) .ensures) ((c .before .field) .given .1) in omega (arith, w .inside .within, w .place-is)
 
--- src/order.rt:129:17
 order-of-requires : tie.Need-order-of-requires
 order-of-requires c κs = search needs
 
--- src/order.rt:132:32
 fixed-requires : tie.Need-fixed-requires
 fixed-requires c κs = search needs
 
--- src/order.rt:132:24
 add-t21 : tie.Need-add-t21
 add-t21 c = let w = taken-whole _ _ _ _ _ _ ((c .before .before .before .before .before .before .read) .ensures) ((c .before .before .before .before .field) .given .1) in let t = task-whole _ _ _ ((c .before .before .before .before .before .before .before .if1) .left) ((c .before .before .before .before .before .before .read) .ensures) _ _ _ _ _ ((c .before .before .before .before .field) .given .1) ((c .fixed) .ensures) ((c .before .order-of) .ensures) in omega (arith, w .inside .starts, w .inside .within, w .place-is, t .ordered)
 
--- src/order.rt:97:1
 returns-2 : tie.Need-returns-2
-returns-2 c = let t = task-none _ _ _ ((c .before .before .before .if1) .left) ((c .before .before .read) .ensures) _ ((c .enum-told) .given .1) (λ room. refl) in (t .ordered, t .within, t .past, t .call)
+returns-2 c = let t = task-none _ _ _ ((c .before .before .before .if1) .left) ((c .before .before .read) .ensures) _ ((c .enum-told) .given .1) refl in (t .ordered, t .within, t .past, t .logged, t .operation)
 
--- src/order.rt:97:1
 returns-3 : tie.Need-returns-3
-returns-3 c = let t = task-none _ _ _ ((c .before .before .before .if1) .left) ((c .before .before .read) .ensures) _ ((c .enum-told2) .given .1) (λ room. refl) in (t .ordered, t .within, t .past, t .call)
+returns-3 c = let t = task-none _ _ _ ((c .before .before .before .if1) .left) ((c .before .before .read) .ensures) _ ((c .enum-told2) .given .1) refl in (t .ordered, t .within, t .past, t .logged, t .operation)
 
--- src/order.rt:97:1
 returns-4 : tie.Need-returns-4
-returns-4 c = let t = task-whole _ _ _ ((c .before .before .before .before .before .before .before .if1) .left) ((c .before .before .before .before .before .before .read) .ensures) _ _ _ _ _ ((c .before .before .before .before .field) .given .1) ((c .fixed) .ensures) ((c .before .order-of) .ensures) in (t .ordered, t .within, t .past, t .call)
+returns-4 c = let t = task-whole _ _ _ ((c .before .before .before .before .before .before .before .if1) .left) ((c .before .before .before .before .before .before .read) .ensures) _ _ _ _ _ ((c .before .before .before .before .field) .given .1) ((c .fixed) .ensures) ((c .before .order-of) .ensures) in (t .ordered, t .within, t .past, t .logged, t .operation)
 
 pub task-at-spec : {M : Type 1} → statement M
 task-at-spec =

@@ -5,66 +5,46 @@ use Rattle.turns.proofs.Turning.{spoken-done, spoken-refused}
 use borrow.Author.Needs.{needs}
 use Rattle.turns.proofs.say.say.Statement.{statement}
 use Rattle.turns.proofs.say.say.Tie as tie
-use Rattle.turns.proofs.say.say.Reads as reads
-use Rattle.turns.proofs.say.say.Lts as lts
-use Rattle.log.proofs.refused_line.Reads as refused-line-reads
-use Rattle.terms.proofs.Refusal.number.Reads as number-reads
-use Rattle.turns.proofs.say.say_done.Reads as say-done-reads
-use Rattle.turns.proofs.say.word_of.Reads as word-of-reads
 
--- src/say.rt:99:9
 word-of-requires : tie.Need-word-of-requires
 word-of-requires c κs = search needs
 
--- src/say.rt:103:21
 enum-known-reply : tie.Need-enum-known-reply
 enum-known-reply c = search needs
 
--- src/say.rt:103:70
 array-share-prefix-letters : tie.Need-array-share-prefix-letters
 array-share-prefix-letters c = search needs
 
--- src/say.rt:103:70
 slice-aggregate-say-done : tie.Need-slice-aggregate-say-done
 slice-aggregate-say-done c = sym (length-take-le _ _ ((c .before .before .before .before .before .word-of) .ensures .0))
 
--- src/say.rt:103:39
 say-done-requires : tie.Need-say-done-requires
 say-done-requires c κs = search needs
 
--- src/say.rt:104:24
 enum-known-reply-2 : tie.Need-enum-known-reply-2
 enum-known-reply-2 c = search needs
 
--- src/say.rt:104:56
 array-share-prefix-letters-2 : tie.Need-array-share-prefix-letters-2
 array-share-prefix-letters-2 c = search needs
 
--- src/say.rt:104:56
 slice-aggregate-refused-line : tie.Need-slice-aggregate-refused-line
 slice-aggregate-refused-line c = sym (length-take-le _ _ ((c .before .before .before .before .before .before .word-of) .ensures .0))
 
--- src/say.rt:104:71
 number-requires : tie.Need-number-requires
 number-requires c κs = search needs
 
--- src/say.rt:104:32
 refused-line-requires : tie.Need-refused-line-requires
 refused-line-requires c κs = search needs
 
--- src/say.rt:96:1
 same-length : tie.Need-same-length
 same-length c = search needs
 
--- src/say.rt:96:1
 returns : tie.Need-returns
 returns c = spoken-done _ _ _ _ _ _ _ _ _ ((c .before .before .before .before .before .before .before .before .before .word-of) .ensures .1) ((c .before .before .before .before .before .before .reply) .given .1) ((c .before .before .say-done) .ensures)
 
--- src/say.rt:96:1
 same-length-2 : tie.Need-same-length-2
 same-length-2 c = search needs
 
--- src/say.rt:96:1
 returns-2 : tie.Need-returns-2
 returns-2 c = spoken-refused _ _ _ _ _ _ _ _ _ ((c .before .before .before .before .before .before .before .before .before .before .word-of) .ensures .1) ((c .before .before .before .before .before .before .before .reply2) .given .1) ((c .before .before .before .number) .ensures) ((c .before .before .refused-line) .ensures)
 

@@ -2,122 +2,88 @@ use Rattle.turns.proofs.Turning.{done-put}
 use borrow.Author.Needs.{needs}
 use Rattle.turns.proofs.say.say_done.Statement.{statement}
 use Rattle.turns.proofs.say.say_done.Tie as tie
-use Rattle.turns.proofs.say.say_done.Reads as reads
-use Rattle.turns.proofs.say.say_done.Lts as lts
-use Rattle.log.proofs.plain_line.Reads as plain-line-reads
-use Rattle.log.proofs.slot_line.Reads as slot-line-reads
-use Rattle.turns.proofs.say.say_found.Reads as say-found-reads
-use Rattle.turns.proofs.say.say_record.Reads as say-record-reads
 
--- src/say.rt:88:40
 enum-told : tie.Need-enum-told
 enum-told c = search needs
 
--- src/say.rt:88:24
 plain-line-requires : tie.Need-plain-line-requires
 plain-line-requires c κs = search needs
 
--- src/say.rt:89:41
 enum-told-2 : tie.Need-enum-told-2
 enum-told-2 c = search needs
 
--- src/say.rt:89:31
 say-found-requires : tie.Need-say-found-requires
 say-found-requires c κs = search needs
 
--- src/say.rt:90:39
 enum-told-3 : tie.Need-enum-told-3
 enum-told-3 c = search needs
 
--- src/say.rt:90:28
 say-record-requires : tie.Need-say-record-requires
 say-record-requires c κs = search needs
 
--- src/say.rt:91:41
 enum-told-4 : tie.Need-enum-told-4
 enum-told-4 c = search needs
 
--- src/say.rt:91:26
 slot-line-requires : tie.Need-slot-line-requires
 slot-line-requires c κs = search needs
 
--- src/say.rt:92:44
 enum-told-5 : tie.Need-enum-told-5
 enum-told-5 c = search needs
 
--- src/say.rt:92:29
 slot-line-requires-2 : tie.Need-slot-line-requires-2
 slot-line-requires-2 c κs = search needs
 
--- src/say.rt:93:42
 enum-told-6 : tie.Need-enum-told-6
 enum-told-6 c = search needs
 
--- src/say.rt:93:27
 slot-line-requires-3 : tie.Need-slot-line-requires-3
 slot-line-requires-3 c κs = search needs
 
--- src/say.rt:94:42
 enum-told-7 : tie.Need-enum-told-7
 enum-told-7 c = search needs
 
--- src/say.rt:94:27
 slot-line-requires-4 : tie.Need-slot-line-requires-4
 slot-line-requires-4 c κs = search needs
 
--- src/say.rt:76:1
 same-length : tie.Need-same-length
 same-length c = search needs
 
--- src/say.rt:76:1
 returns : tie.Need-returns
 returns c = done-put _ _ _ _ _ _ _ _ _ ((c .before .before .before .before .enum-told) .given .1) ((c .before .before .plain-line) .ensures)
 
--- src/say.rt:76:1
 same-length-2 : tie.Need-same-length-2
 same-length-2 c = search needs
 
--- src/say.rt:76:1
 returns-2 : tie.Need-returns-2
 returns-2 c = done-put _ _ _ _ _ _ _ _ _ ((c .before .before .before .before .enum-told2) .given .1) ((c .before .before .say-found) .ensures)
 
--- src/say.rt:76:1
 same-length-3 : tie.Need-same-length-3
 same-length-3 c = search needs
 
--- src/say.rt:76:1
 returns-3 : tie.Need-returns-3
 returns-3 c = done-put _ _ _ _ _ _ _ _ _ ((c .before .before .before .before .enum-told3) .given .1) ((c .before .before .say-record) .ensures)
 
--- src/say.rt:76:1
 same-length-4 : tie.Need-same-length-4
 same-length-4 c = search needs
 
--- src/say.rt:76:1
 returns-4 : tie.Need-returns-4
 returns-4 c = done-put _ _ _ _ _ _ _ _ _ ((c .before .before .before .before .enum-told4) .given .1) ((c .before .before .slot-line) .ensures)
 
--- src/say.rt:76:1
 same-length-5 : tie.Need-same-length-5
 same-length-5 c = search needs
 
--- src/say.rt:76:1
 returns-5 : tie.Need-returns-5
 returns-5 c = done-put _ _ _ _ _ _ _ _ _ ((c .before .before .before .before .enum-told5) .given .1) ((c .before .before .slot-line2) .ensures)
 
--- src/say.rt:76:1
 same-length-6 : tie.Need-same-length-6
 same-length-6 c = search needs
 
--- src/say.rt:76:1
 returns-6 : tie.Need-returns-6
 returns-6 c = done-put _ _ _ _ _ _ _ _ _ ((c .before .before .before .before .enum-told6) .given .1) ((c .before .before .slot-line3) .ensures)
 
--- src/say.rt:76:1
 same-length-7 : tie.Need-same-length-7
 same-length-7 c = search needs
 
--- src/say.rt:76:1
 returns-7 : tie.Need-returns-7
 returns-7 c = done-put _ _ _ _ _ _ _ _ _ ((c .before .before .before .before .enum-told7) .given .1) ((c .before .before .slot-line4) .ensures)
 
