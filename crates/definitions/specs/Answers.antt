@@ -44,8 +44,8 @@ abbrev pub unless : {A : Type 0} → Answer → A → A → A
 unless (refused n) old new = old
 unless (done a b w) old new = new
 
--- a refusal by its name; `refusal` of a term and `sigRefusal` of a signature are numbers of such names too (Numbers
--- of library)
+-- a refusal by its name; `refusal` of a term and `sigRefusal` of a signature are numbers of such names too
+-- (FirstRefusal)
 abbrev pub refuse : Refusal → Answer
 refuse why = refused (numberOf why)
 

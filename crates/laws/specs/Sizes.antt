@@ -55,7 +55,7 @@ freeHead = linkLength - 1
 abbrev pub rootPlace : ℕ
 rootPlace = 8 * keyLimit + 8
 
--- THE LOG PROGRAM: 'at most 65,535 bytes', 'its answer buffer has 32,768 bytes', and the buffer of a line
+-- THE LOG PROGRAM: 'at most 65,535 bytes', 'the answer buffer has 32,768 bytes', and the buffer of a line
 abbrev pub inputLimit : ℕ
 inputLimit = 65535
 
