@@ -17,8 +17,8 @@
 -- its ending, its indices and its arithmetic shown. That every call has an outcome by its contract, and only one, is
 -- `every-call` here. The checks of a signature and of a term and the argument of a term, with refusal 10, are calls
 -- without tables and have their contracts in terms (sigRefusal, refusal, argRefusal); the question about one pair is
--- exact both ways by export/specs/Exactly.antt; 16 is the log program's (turns). How a caller reads a store back, and
--- how much room every answer has enough of, is in ReadStore.antt beside this file.
+-- exact both ways by export_terms/specs/Exactly.antt; 16 is the log program's (turns). How a caller reads a store
+-- back, and how much room every answer has enough of, is in ReadStore.antt beside this file.
 use Prim.Native.Nat.{ℕ, _≤_, _<_}
 use mathlib.Core.Path.{_≡_, refl, sym, ap, _∙_}
 use mathlib.Core.Logic.{_≢_, _↔_, Iff·trans}
