@@ -38,12 +38,12 @@ pub extern "C" fn azunkefogo_argument(
     ensures { λ _. ⌜ now (start .exit) ≡ startAfter (now (sig .entry)) (now (term .entry)) i (now (start .entry)) ⌝ }
     ensures { λ _. ⌜ now (length .exit) ≡ lengthAfter (now (sig .entry)) (now (term .entry)) i (now (length .entry)) ⌝ }
 {
-    let refused = terms::argument_refusal(sig, term, i);
+    let refused = arguments::argument_refusal(sig, term, i);
     if refused != 0 {
         return code(refused);
     }
-    let part = terms::argument(sig, term, i);
-    *start = terms::argument_start(sig, term, i);
+    let part = arguments::argument(sig, term, i);
+    *start = arguments::argument_start(sig, term, i);
     *length = part.len();
     0
 }

@@ -1,6 +1,6 @@
 use mathlib.Core.Path.{_∙_}
-use Rattle.terms.proofs.argument_refusal.Statement.{statement}
-use Rattle.terms.proofs.argument_refusal.Tie as tie
+use Rattle.arguments.proofs.argument_refusal.Statement.{statement}
+use Rattle.arguments.proofs.argument_refusal.Tie as tie
 
 check-argument-requires : tie.Need-check-argument-requires
 check-argument-requires c κs = tt

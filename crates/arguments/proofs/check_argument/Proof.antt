@@ -2,11 +2,11 @@ use mathlib.Core.Path.{_≡_, refl, sym, _∙_}
 use native.Mathlib.Omega.{arith}
 use lib.ListN.{length, drop, length-drop}
 use borrow.Author.Tests.{le-ltb, lt-ltb, eq-eqb, ne-eqb}
 use Rattle.terms.specs.Terms.{argRefusal, refusal}
 use Rattle.terms.proofs.TermLaws.{good}
 use borrow.Author.Needs.{needs}
-use Rattle.terms.proofs.check_argument.Statement.{statement}
-use Rattle.terms.proofs.check_argument.Tie as tie
+use Rattle.arguments.proofs.check_argument.Statement.{statement}
+use Rattle.arguments.proofs.check_argument.Tie as tie
 
 check-requires : tie.Need-check-requires
 check-requires c κs = tt

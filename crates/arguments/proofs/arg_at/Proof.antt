@@ -6,10 +6,10 @@ use native.Mathlib.Omega.{arith}
 use native.Mathlib.Nat.{sub-zero}
 use borrow.Author.Needs.{needs}
 use lib.ListN.{length, drop, length-drop}
 use Rattle.terms.specs.Terms.{span}
 use Rattle.terms.proofs.TermLaws.{turn-more, turn-short, span-zero}
-use Rattle.terms.proofs.arg_at.Statement.{statement}
-use Rattle.terms.proofs.arg_at.Tie as tie
+use Rattle.arguments.proofs.arg_at.Statement.{statement}
+use Rattle.arguments.proofs.arg_at.Tie as tie
 
 abbrev Inv-loop : tie.InvT-loop
 Inv-loop sig t k used₀ i₀ used i = (i ≤ k) × (2 ≤ used) × (used ≤ length t) × (2 + span sig (drop 2 t) k ≡ used + span sig (drop used t) (k - i))

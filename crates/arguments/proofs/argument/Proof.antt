@@ -4,12 +4,12 @@ use native.Mathlib.Omega.{arith}
 use native.Mathlib.Nat.{add-sub-cancel-left}
 use lib.ListN.{length, drop, take, length-drop}
 use borrow.Author.Tests.{eq-eqb, ne-eqb}
 use Rattle.terms.specs.Terms.{argBytes, argStart, argRefusal}
 use Rattle.terms.proofs.TermLaws.{arg-none, arg-in, args-within, none-long}
 use Rattle.laws.proofs.Lists.{tail-part}
 use borrow.Author.Needs.{needs}
-use Rattle.terms.proofs.argument.Statement.{statement}
-use Rattle.terms.proofs.argument.Tie as tie
+use Rattle.arguments.proofs.argument.Statement.{statement}
+use Rattle.arguments.proofs.argument.Tie as tie
 
 argument-refusal-requires : tie.Need-argument-refusal-requires
 argument-refusal-requires c κs = tt

@@ -1,12 +1,12 @@
 use Rattle.terms.proofs.TermLaws.{arg-none, args-within}
 use Rattle.terms.specs.Terms.{argStart, argRefusal}
 use borrow.Author.Tests.{eq-eqb, ne-eqb}
 use native.Mathlib.Omega.{arith}
 use Prim.Native.Nat.{_-_}
 use mathlib.Core.Path.{_≡_, refl, sym, _∙_}
 use borrow.Author.Needs.{needs}
-use Rattle.terms.proofs.argument_start.Statement.{statement}
-use Rattle.terms.proofs.argument_start.Tie as tie
+use Rattle.arguments.proofs.argument_start.Statement.{statement}
+use Rattle.arguments.proofs.argument_start.Tie as tie
 
 argument-refusal-requires : tie.Need-argument-refusal-requires
 argument-refusal-requires c κs = tt
