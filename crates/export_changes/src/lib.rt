@@ -28,7 +28,7 @@ pub extern "C" fn azunkefogo_open(
         (now (sets0 .exit)) (now (sets1 .exit)) (now (sets2 .exit)) (now (sets3 .exit)))
         [] r ⌝ }
 {
-    number_of(store::open(bytes, used, label, link, sets0, sets1, sets2, sets3, sig))
+    number_of(opening::open(bytes, used, label, link, sets0, sets1, sets2, sets3, sig))
 }
 
 // Stores a term in the smallest slot that is not in use.
@@ -54,7 +54,7 @@ pub extern "C" fn azunkefogo_insert(
         [] r (now (slot .entry)) (now (slot .exit)) ⌝ }
 {
     tell_first(
-        store::insert(bytes, used, label, link, sets0, sets1, sets2, sets3, term),
+        inserting::insert(bytes, used, label, link, sets0, sets1, sets2, sets3, term),
         slot,
     )
 }
@@ -80,5 +80,5 @@ pub extern "C" fn azunkefogo_delete(
         (now (sets0 .exit)) (now (sets1 .exit)) (now (sets2 .exit)) (now (sets3 .exit)))
         [] r ⌝ }
 {
-    number_of(store::delete(bytes, used, label, link, sets0, sets1, sets2, sets3, slot))
+    number_of(deleting::delete(bytes, used, label, link, sets0, sets1, sets2, sets3, slot))
 }

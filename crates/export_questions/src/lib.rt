@@ -31,7 +31,7 @@ pub extern "C" fn azunkefogo_with_key(
         (now (out .exit)) r (now (count .entry)) (now (count .exit)) ⌝ }
 {
     tell_first(
-        store::with_key(
+        keyquestion::with_key(
             bytes,
             used,
             label,

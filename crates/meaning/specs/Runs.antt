@@ -1,6 +1,6 @@
 -- SCOPE.md, 'Store': calls on lent tables, and runs of them. What a call means is what its contract says: `carried`
--- has one line for each function of that name (crates store and retrieve), whose contract is `outcome .. ≡ told ..
--- (that line)`.
+-- has one line for each call's function (crates opening, inserting, deleting, keyquestion and retrieve), whose contract
+-- is `outcome .. ≡ told .. (that line)`.
 use Prim.Native.Nat.{ℕ}
 use mathlib.Core.Path.{_≡_}
 use mathlib.Core.List.{List}

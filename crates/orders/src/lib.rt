@@ -42,7 +42,18 @@ fn ask(
         (now (term .entry)) (length (now (out .entry)))) ⌝ }
 {
     match order {
-        Order::WithKey => store::with_key(bytes, used, label, link, s0, s1, s2, s3, term, out),
+        Order::WithKey => keyquestion::with_key(
+            bytes,
+            used,
+            label,
+            link,
+            s0,
+            s1,
+            s2,
+            s3,
+            term,
+            out,
+        ),
         Order::Retrieve(which) => list(bytes, used, label, link, s0, s1, s2, s3, which, term, out),
         Order::Solve(slot) => retrieve::solve(
             bytes,
@@ -84,9 +95,9 @@ pub fn call(
         (now (term .entry)) (length (now (out .entry)))) ⌝ }
 {
     match order {
-        Order::Open => store::open(bytes, used, label, link, s0, s1, s2, s3, term),
-        Order::Insert => store::insert(bytes, used, label, link, s0, s1, s2, s3, term),
-        Order::Delete(slot) => store::delete(bytes, used, label, link, s0, s1, s2, s3, slot),
+        Order::Open => opening::open(bytes, used, label, link, s0, s1, s2, s3, term),
+        Order::Insert => inserting::insert(bytes, used, label, link, s0, s1, s2, s3, term),
+        Order::Delete(slot) => deleting::delete(bytes, used, label, link, s0, s1, s2, s3, slot),
         _ => ask(order, term, bytes, used, label, link, s0, s1, s2, s3, out),
     }
 }

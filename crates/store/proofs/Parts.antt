@@ -1,10 +1,9 @@
 -- What the parts of the store leave, over plain lists.
-use Prim.Native.Nat.{ℕ, zero, suc, _+_, _-_, _*_, _/_, _%_, _≤_, _<_}
+use Prim.Native.Nat.{ℕ, zero, suc, _+_, _/_, _%_, _≤_}
 use mathlib.Core.Path.{_≡_, refl, sym, ap, _∙_}
 use mathlib.Core.List.{List, [], _∷_, map}
 use mathlib.Core.Bool.{Bool, true, false}
 use native.Mathlib.Omega.{arith}
-use borrow.Author.Tests.{lt-ltb, le-ltb}
 use lib.Dec.{ltb, eqb}
 use lib.ListN.{length, getD, take, drop, replicate, length-map, length-take}
 use lib.Seq.{sets, sets-eq, length-sets, take-at, take-append-le, length-take-le}
@@ -12,14 +11,13 @@ use Rattle.laws.specs.Choice.{pick}
 use Rattle.keys.specs.Keys.{endOf}
 use Rattle.terms.specs.Terms.{numbers, refusal}
 use Rattle.terms.proofs.TermLaws.{length-numbers}
-use Rattle.chains.specs.Chains.{find, longer}
+use Rattle.chains.specs.Chains.{longer}
 use Rattle.layout.specs.Layout.{signatureOf, termOf}
-use Rattle.paths.specs.Rep.{lab}
 use Rattle.paths.specs.Ups.{upsF}
 use Rattle.paths.specs.Locate.{missing}
 use Rattle.termkeys.specs.Fill.{fill, delFill}
-use Rattle.store.specs.Tables.{upsOf, endsOf, Outlined, noNumbers, located, KeysIn, roomFor, withoutKeys, withoutTerm, endNumber, numberFrom, keyNumber}
-use Rattle.laws.specs.Sizes.{freeHead, keyLimit, rootPlace}
+use Rattle.store.specs.Tables.{upsOf, endsOf, Outlined, noNumbers, located, KeysIn, roomFor, withoutKeys, withoutTerm}
+use Rattle.laws.specs.Sizes.{freeHead, keyLimit}
 use Rattle.terms.specs.Terms.{arity}
 
 front-all : (l vs : List ℕ) (n : ℕ) → length vs ≡ n → n ≤ length l → take n (sets l 0 vs) ≡ vs
@@ -104,38 +102,3 @@ module _ (b sig t link label : List ℕ) (s : ℕ) (r : Bool) (e : sig ≡ signa
         few = omega (arith, k .0, o .few);
         drops = λ σ x y. rw (q, ← e, ← f, ← (o .many), ← (o .hang), ← (o .stand), x, y, k .0, k .1);
       }
-
--- one step of a key
-pub number-turn : (link label rest : List ℕ) (p q x k : ℕ) → 2 < length rest → x ≡ getD rest 0 0 * 256 + getD rest 1 0 → k ≡ find link label (lab p x) → q ≡ k * 8 + (getD rest 2 0 - 1)
-    → numberFrom link label q (drop 3 rest) ≡ numberFrom link label p rest
-unfolding numberFrom
-number-turn link label [] p q x k h e f g = absurd (omega arith)
-number-turn link label (a ∷ []) p q x k h e f g = absurd (omega arith)
-number-turn link label (a ∷ b ∷ []) p q x k h e f g = absurd (omega arith)
-number-turn link label (a ∷ b ∷ i ∷ r) p q x k h e f g = rw (g, f, e)
-
-pub number-none : (link label rest : List ℕ) (p : ℕ) → length rest ≤ 2 → (length rest ≡ 2 → ⊥) → keyLimit ≡ numberFrom link label p rest
-unfolding numberFrom
-number-none link label [] p h n = refl
-number-none link label (a ∷ []) p h n = refl
-number-none link label (a ∷ b ∷ []) p h n = absurd (n refl)
-number-none link label (a ∷ b ∷ i ∷ r) p h n = absurd (omega arith)
-
-pub number-end : (link label rest : List ℕ) (p x e w k : ℕ) → length rest ≡ 2 → x ≡ getD rest 0 0 * 256 + getD rest 1 0 → e ≡ endNumber x → w ≡ lab p e → k ≡ find link label w → k ≡ numberFrom link label p rest
-unfolding numberFrom
-number-end link label [] p x e w k h a b c d = absurd (omega arith)
-number-end link label (u ∷ []) p x e w k h a b c d = absurd (omega arith)
-number-end link label (u ∷ v ∷ []) p x e w k h a b c d = rw (d, c, b, a)
-number-end link label (u ∷ v ∷ i ∷ r) p x e w k h a b c d = absurd (omega arith)
-
-pub end-small : (e : ℕ) → e < 256 → e ≡ endNumber e
-unfolding endNumber
-end-small e h = rw (lt-ltb e 256 h)
-
-pub end-star : (e : ℕ) → 256 ≤ e → 256 ≡ endNumber e
-unfolding endNumber
-end-star e h = rw (le-ltb e 256 h)
-
-pub number-start : (link label k : List ℕ) → numberFrom link label rootPlace k ≡ keyNumber link label k
-unfolding keyNumber
-number-start link label k = refl

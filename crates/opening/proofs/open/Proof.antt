@@ -1,9 +1,10 @@
 use native.Mathlib.Omega.{arith}
 use Rattle.terms.proofs.TermLaws.{checked-signed}
-use Rattle.store.proofs.Public.{ample-not, ample-is, lengths, open-short, open-bad, open-done}
+use Rattle.store.proofs.Public.{ample-not, ample-is, lengths}
+use Rattle.opening.proofs.OpenLaws.{open-short, open-bad, open-done}
 use borrow.Author.Needs.{needs}
-use Rattle.store.proofs.open.Statement.{statement}
-use Rattle.store.proofs.open.Tie as tie
+use Rattle.opening.proofs.open.Statement.{statement}
+use Rattle.opening.proofs.open.Tie as tie
 
 lengths-suffice-requires : tie.Need-lengths-suffice-requires
 lengths-suffice-requires c κs = tt

@@ -6,10 +6,10 @@ use lib.ListN.{length, length-drop}
 use Rattle.laws.proofs.Lists.{tail-part}
 use Rattle.paths.specs.Locate.{find-le}
 use Rattle.chains.specs.Chains.{find}
 use Rattle.store.specs.Tables.{numberFrom, keyNumber}
-use Rattle.store.proofs.Parts.{number-start, number-turn, number-none, number-end}
-use Rattle.store.proofs.key_number.Statement.{statement}
-use Rattle.store.proofs.key_number.Tie as tie
+use Rattle.keyquestion.proofs.NumberLaws.{number-start, number-turn, number-none, number-end}
+use Rattle.keyquestion.proofs.key_number.Statement.{statement}
+use Rattle.keyquestion.proofs.key_number.Tie as tie
 
 abbrev Inv-loop : tie.InvT-loop
 Inv-loop link label key place₀ rest₀ place rest = (place < 33024) × (numberFrom link label place rest ≡ keyNumber link label key)

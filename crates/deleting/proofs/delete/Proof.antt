@@ -2,10 +2,11 @@ use native.Mathlib.Omega.{arith}
 use borrow.Author.Tests.{not-true, not-false}
 use mathlib.Core.Path.{refl, sym, _∙_}
 use Rattle.layout.proofs.LayoutLaws.{in-use-small}
 use Rattle.store.proofs.Parts.{none-are}
-use Rattle.store.proofs.Public.{ample-not, ample-is, lengths, sized, used-is, delete-short, delete-none, delete-done}
-use Rattle.store.proofs.delete.Statement.{statement}
-use Rattle.store.proofs.delete.Tie as tie
+use Rattle.store.proofs.Public.{ample-not, ample-is, lengths, sized}
+use Rattle.deleting.proofs.DeleteLaws.{used-is, delete-short, delete-none, delete-done}
+use Rattle.deleting.proofs.delete.Statement.{statement}
+use Rattle.deleting.proofs.delete.Tie as tie
 
 lengths-suffice-requires : tie.Need-lengths-suffice-requires
 lengths-suffice-requires c κs = tt

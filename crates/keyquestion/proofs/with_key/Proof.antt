@@ -1,9 +1,10 @@
 use borrow.Author.Tests.{not-true, not-false}
 use borrow.Author.Needs.{needs}
 use native.Mathlib.Omega.{arith}
-use Rattle.store.proofs.Public.{ample-not, ample-is, lengths, ask-short, ask-bad, ask-room, ask-done}
-use Rattle.store.proofs.with_key.Statement.{statement}
-use Rattle.store.proofs.with_key.Tie as tie
+use Rattle.store.proofs.Public.{ample-not, ample-is, lengths}
+use Rattle.keyquestion.proofs.QuestionLaws.{ask-short, ask-bad, ask-room, ask-done}
+use Rattle.keyquestion.proofs.with_key.Statement.{statement}
+use Rattle.keyquestion.proofs.with_key.Tie as tie
 
 long-enough-requires : tie.Need-long-enough-requires
 long-enough-requires c κs = tt

@@ -1,8 +1,8 @@
 use mathlib.Core.Path.{_∙_}
 use borrow.Author.Needs.{needs}
-use Rattle.store.proofs.Parts.{end-small, end-star}
-use Rattle.store.proofs.end_number.Statement.{statement}
-use Rattle.store.proofs.end_number.Tie as tie
+use Rattle.keyquestion.proofs.NumberLaws.{end-small, end-star}
+use Rattle.keyquestion.proofs.end_number.Statement.{statement}
+use Rattle.keyquestion.proofs.end_number.Tie as tie
 
 low16-requires : tie.Need-low16-requires
 low16-requires c κs = search needs

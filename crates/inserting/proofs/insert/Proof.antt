@@ -5,10 +5,11 @@ use lib.Seq.{length-take-le}
 use lib.ListN.{length}
 use Rattle.layout.proofs.LayoutLaws.{signature-good}
 use Rattle.terms.proofs.TermLaws.{checked-good}
-use Rattle.store.proofs.Public.{ample-not, ample-is, lengths, sized, free-slot, insert-short, insert-bad, insert-full, insert-crowded, insert-done}
+use Rattle.store.proofs.Public.{ample-not, ample-is, lengths, sized}
+use Rattle.inserting.proofs.InsertLaws.{free-slot, insert-short, insert-bad, insert-full, insert-crowded, insert-done}
 use borrow.Author.Needs.{needs}
-use Rattle.store.proofs.insert.Statement.{statement}
-use Rattle.store.proofs.insert.Tie as tie
+use Rattle.inserting.proofs.insert.Statement.{statement}
+use Rattle.inserting.proofs.insert.Tie as tie
 
 lengths-suffice-requires : tie.Need-lengths-suffice-requires
 lengths-suffice-requires c κs = tt
