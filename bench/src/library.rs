@@ -1,5 +1,7 @@
 //! The exported calls of the library, and tables to lend to them.
 
+use crate::exported::*;
+
 /// The eight tables, with the lengths that docs/TABLES.md gives.
 #[derive(Clone)]
 pub struct Tables {
@@ -8,51 +10,6 @@ pub struct Tables {
     label: Vec<u32>,
     link: Vec<u16>,
     sets: [Vec<u64>; 4],
-}
-
-macro_rules! exported {
-    ($($name:ident ($($more:ident : $kind:ty),*) over $pointer:tt;)*) => {
-        extern "C" {
-            $(fn $name(
-                bytes: *$pointer u8, bytes_count: usize,
-                used: *$pointer u64, used_count: usize,
-                label: *$pointer u32, label_count: usize,
-                link: *$pointer u16, link_count: usize,
-                sets0: *$pointer u64, sets0_count: usize,
-                sets1: *$pointer u64, sets1_count: usize,
-                sets2: *$pointer u64, sets2_count: usize,
-                sets3: *$pointer u64, sets3_count: usize,
-                $($more: $kind),*
-            ) -> u32;)*
-        }
-    };
-}
-
-exported! {
-    azunkefogo_open(signature: *const u8, signature_count: usize) over mut;
-    azunkefogo_insert(term: *const u8, term_count: usize, slot: *mut usize) over mut;
-    azunkefogo_delete(slot: usize) over mut;
-    azunkefogo_retrieve(
-        relation: usize,
-        question: *const u8, question_count: usize,
-        out: *mut u8, out_count: usize,
-        candidates: *mut usize, answers: *mut usize
-    ) over const;
-    azunkefogo_solve(
-        slot: usize,
-        question: *const u8, question_count: usize,
-        out: *mut u8, out_count: usize,
-        fields: *mut usize, written: *mut usize
-    ) over const;
-}
-
-extern "C" {
-    fn azunkefogo_unifiable(
-        signature: *const u8, signature_count: usize,
-        stored: *const u8, stored_count: usize,
-        question: *const u8, question_count: usize,
-        answer: *mut usize,
-    ) -> u32;
 }
 
 /// Whether two terms are unifiable, by the library's own unifier and without tables.
@@ -98,11 +55,11 @@ fn answer<T>(number: u32, value: T) -> Result<T, u32> {
 impl Tables {
     pub fn open(signature: &[u8]) -> Tables {
         let mut tables = Tables {
-            bytes: vec![0; 33_538],
-            used: vec![0; 8],
-            label: vec![0; 4096],
-            link: vec![0; 8190],
-            sets: std::array::from_fn(|_| vec![0; 8192]),
+            bytes: vec![0; BYTES],
+            used: vec![0; USED],
+            label: vec![0; LABEL],
+            link: vec![0; LINK],
+            sets: std::array::from_fn(|_| vec![0; SETS]),
         };
         tables.clear(signature);
         tables

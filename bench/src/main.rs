@@ -4,6 +4,9 @@ mod agreement;
 mod costly;
 mod counting;
 mod drawing;
+#[allow(dead_code)]
+#[path = "../../bindings/rust/src/exported.rs"]
+mod exported;
 mod hard;
 mod items;
 mod laws;

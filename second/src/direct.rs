@@ -7,6 +7,8 @@
 //! `direct (SEED + r) 1`. The last line is `direct: N checks, D failures`; it ends with 0
 //! only when D is 0.
 
+#[path = "../../bindings/rust/src/exported.rs"]
+mod exported;
 mod invent;
 mod library;
 mod pairs;

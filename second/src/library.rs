@@ -1,18 +1,19 @@
 //! The exported calls of the library under test, and memory to lend to them: every lent
 //! buffer stands between guard bytes and remembers what it held.
 
+use crate::exported::*;
 use crate::random::Random;
 
 /// Element size in bytes and element count of each table, in the order of the calls.
 pub const TABLES: [(usize, usize); 8] = [
-    (1, 33_538),
-    (8, 8),
-    (4, 4096),
-    (2, 8190),
-    (8, 8192),
-    (8, 8192),
-    (8, 8192),
-    (8, 8192),
+    (1, BYTES),
+    (8, USED),
+    (4, LABEL),
+    (2, LINK),
+    (8, SETS),
+    (8, SETS),
+    (8, SETS),
+    (8, SETS),
 ];
 
 const GUARD: usize = 64;
@@ -170,75 +171,6 @@ impl Tables {
             self.0.iter_mut().for_each(Lent::accept);
         }
     }
-}
-
-macro_rules! exported {
-    ($($name:ident ($($more:ident : $kind:ty),*) over $pointer:tt;)*) => {
-        extern "C" {
-            $(fn $name(
-                bytes: *$pointer u8, bytes_count: usize,
-                used: *$pointer u64, used_count: usize,
-                label: *$pointer u32, label_count: usize,
-                link: *$pointer u16, link_count: usize,
-                sets0: *$pointer u64, sets0_count: usize,
-                sets1: *$pointer u64, sets1_count: usize,
-                sets2: *$pointer u64, sets2_count: usize,
-                sets3: *$pointer u64, sets3_count: usize,
-                $($more: $kind),*
-            ) -> u32;)*
-        }
-    };
-}
-
-exported! {
-    azunkefogo_open(signature: *const u8, signature_count: usize) over mut;
-    azunkefogo_insert(term: *const u8, term_count: usize, slot: *mut usize) over mut;
-    azunkefogo_delete(slot: usize) over mut;
-    azunkefogo_with_key(
-        key: *const u8, key_count: usize,
-        out: *mut u8, out_count: usize,
-        count: *mut usize
-    ) over const;
-    azunkefogo_retrieve(
-        relation: usize,
-        question: *const u8, question_count: usize,
-        out: *mut u8, out_count: usize,
-        candidates: *mut usize, answers: *mut usize
-    ) over const;
-    azunkefogo_solve(
-        slot: usize,
-        question: *const u8, question_count: usize,
-        out: *mut u8, out_count: usize,
-        fields: *mut usize, written: *mut usize
-    ) over const;
-}
-
-extern "C" {
-    fn azunkefogo_check_signature(signature: *const u8, signature_count: usize) -> u32;
-    fn azunkefogo_check_term(
-        signature: *const u8,
-        signature_count: usize,
-        term: *const u8,
-        term_count: usize,
-    ) -> u32;
-    fn azunkefogo_argument(
-        signature: *const u8,
-        signature_count: usize,
-        term: *const u8,
-        term_count: usize,
-        i: usize,
-        start: *mut usize,
-        length: *mut usize,
-    ) -> u32;
-    fn azunkefogo_unifiable(
-        signature: *const u8,
-        signature_count: usize,
-        stored: *const u8,
-        stored_count: usize,
-        question: *const u8,
-        question_count: usize,
-        answer: *mut usize,
-    ) -> u32;
 }
 
 /// Calls an exported function with the eight tables in front. The pointers are into lent

@@ -26,6 +26,7 @@
 #![deny(missing_docs)]
 #![deny(unsafe_code)]
 
+mod exported;
 mod index;
 #[allow(unsafe_code)]
 mod raw;

@@ -5,12 +5,7 @@
 //! element type, held for the whole call. What the call writes comes from `&mut`, so nothing
 //! else overlaps it. The library keeps no pointer, and writes nothing but what is lent `&mut`.
 
-/// The tables' lengths, in elements.
-const BYTES: usize = 33_538;
-const USED: usize = 8;
-const LABEL: usize = 4096;
-const LINK: usize = 8190;
-const SETS: usize = 8192;
+use crate::exported::*;
 
 /// The eight tables. Their lengths never change, so refusal 1 is never given.
 #[derive(Clone)]
@@ -37,76 +32,6 @@ impl Tables {
             sets: [blank(SETS), blank(SETS), blank(SETS), blank(SETS)],
         }
     }
-}
-
-/// Declares calls whose first arguments are the eight tables.
-macro_rules! exported {
-    ($($name:ident ($($more:ident : $kind:ty),*) over $pointer:tt;)*) => {
-        extern "C" {
-            $(fn $name(
-                bytes: *$pointer u8, bytes_count: usize,
-                used: *$pointer u64, used_count: usize,
-                label: *$pointer u32, label_count: usize,
-                link: *$pointer u16, link_count: usize,
-                sets0: *$pointer u64, sets0_count: usize,
-                sets1: *$pointer u64, sets1_count: usize,
-                sets2: *$pointer u64, sets2_count: usize,
-                sets3: *$pointer u64, sets3_count: usize,
-                $($more: $kind),*
-            ) -> u32;)*
-        }
-    };
-}
-
-exported! {
-    azunkefogo_open(signature: *const u8, signature_count: usize) over mut;
-    azunkefogo_insert(term: *const u8, term_count: usize, slot: *mut usize) over mut;
-    azunkefogo_delete(slot: usize) over mut;
-    azunkefogo_with_key(
-        key: *const u8, key_count: usize,
-        out: *mut u8, out_count: usize,
-        count: *mut usize
-    ) over const;
-    azunkefogo_retrieve(
-        relation: usize,
-        question: *const u8, question_count: usize,
-        out: *mut u8, out_count: usize,
-        candidates: *mut usize, answers: *mut usize
-    ) over const;
-    azunkefogo_solve(
-        slot: usize,
-        question: *const u8, question_count: usize,
-        out: *mut u8, out_count: usize,
-        fields: *mut usize, written: *mut usize
-    ) over const;
-}
-
-extern "C" {
-    fn azunkefogo_check_signature(signature: *const u8, signature_count: usize) -> u32;
-    fn azunkefogo_check_term(
-        signature: *const u8,
-        signature_count: usize,
-        term: *const u8,
-        term_count: usize,
-    ) -> u32;
-    fn azunkefogo_argument(
-        signature: *const u8,
-        signature_count: usize,
-        term: *const u8,
-        term_count: usize,
-        i: usize,
-        start: *mut usize,
-        length: *mut usize,
-    ) -> u32;
-    fn azunkefogo_unifiable(
-        signature: *const u8,
-        signature_count: usize,
-        stored: *const u8,
-        stored_count: usize,
-        question: *const u8,
-        question_count: usize,
-        answer: *mut usize,
-    ) -> u32;
 }
 
 /// Makes a call with the tables in front; `$pointer` is `as_ptr` or `as_mut_ptr`.
