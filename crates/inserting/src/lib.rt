@@ -50,7 +50,7 @@ pub fn insert(
         return Reply::Refused(why);
     }
     let set = layout::slots_used(used);
-    let free = set.complement().least();
+    let free = listing::least(set.complement());
     if SLOTS <= free {
         return Reply::Refused(Refusal::Full);
     }

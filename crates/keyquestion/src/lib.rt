@@ -71,7 +71,7 @@ pub fn with_key(
     }
     let k = key_number(link, label, key);
     let set = keysets::meet(s0, s1, s2, s3, k, layout::slots_used(used));
-    let n = set.list(out);
+    let n = listing::list(set, out);
     if out.len() < 2 * n {
         return Reply::Refused(Refusal::Room);
     }

@@ -29,7 +29,7 @@ use Rattle.library.specs.Sound.{Sound, free-most}
 use Rattle.library.specs.Readable.{use-held}
 use Rattle.library.specs.Store.{Store, holding, inUse, firstFree, put, keyCount, keyed, answered, after, answers, candidates, insert, delete, withKey, retrieve, solve}
 use Rattle.slots.specs.Slots.{listed}
-use Rattle.slots.proofs.Listing.{length-listed}
+use Rattle.listing.proofs.Listing.{length-listed}
 use Rattle.laws.specs.Sizes.{keyLimit, slotCount, lengthsStart, termsStart}
 
 -- the first bytes of a list replaced

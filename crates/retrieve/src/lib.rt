@@ -51,12 +51,12 @@ fn confirmed(bytes: &[u8], relation: usize, sig: &[u8], q: &[u8], candidates: Sl
         (members (candidates .words)) ⌝ }
 {
     let mut answers = SlotSet::empty();
-    let mut slot = candidates.next(0);
+    let mut slot = listing::next(candidates, 0);
     while slot < SLOTS {
         if stands(relation, sig, layout::term(bytes, slot), q) {
             answers = answers.insert(slot);
         }
-        slot = candidates.next(slot + 1);
+        slot = listing::next(candidates, slot + 1);
     }
     answers
 }
@@ -97,11 +97,11 @@ pub fn retrieve(
     let set = layout::slots_used(used);
     let candidates = candidates::candidates(link, label, s0, s1, s2, s3, sig, relation, q, set);
     let answers = confirmed(bytes, relation, sig, q, candidates);
-    let n = answers.list(out);
+    let n = listing::list(answers, out);
     if out.len() < 2 * n {
         return Reply::Refused(Refusal::Room);
     }
-    Reply::Done(candidates.size(), n)
+    Reply::Done(listing::size(candidates), n)
 }
 
 // The record of a slot's term and a question, and the number of its fields and bytes.

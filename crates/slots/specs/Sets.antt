@@ -1,6 +1,6 @@
 -- SCOPE.md, 'Store' and 'Paths and keys': the operations on words are those on sets of slots. `has ws s` is 1 where
 -- slot s is in the set and 0 where it is not; a set has eight words of 64 digits. The size is the length of `members`
--- by the contract of `size`.
+-- by the contract of `listing::size`.
 use Prim.Native.Nat.{ℕ, zero, suc, _+_, _-_, _*_, _/_, _%_, _^_, _≤_, _<_, min, max}
 use mathlib.Core.Path.{_≡_, refl, ap, _∙_}
 use mathlib.Core.Logic.{inl, inr}

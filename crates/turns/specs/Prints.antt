@@ -13,7 +13,7 @@ use lib.Seq.{sets, length-sets, take-append-seam}
 use Rattle.laws.specs.Choice.{pick, chosen}
 use Rattle.laws.specs.Sizes.{inputLimit, answerRoom, lineRoom, keyLimit, slotCount}
 use Rattle.slots.specs.Slots.{listed}
-use Rattle.slots.proofs.Listing.{length-listed}
+use Rattle.listing.proofs.Listing.{length-listed}
 use Rattle.terms.specs.Terms.{sigRefusal, refusal}
 use Rattle.theory.specs.Unify.{Bind, full}
 use Rattle.definitions.specs.Records.{recordOf, countOf}

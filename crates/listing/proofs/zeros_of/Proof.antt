@@ -1,8 +1,8 @@
 use mathlib.Core.Path.{refl}
 use native.Mathlib.Omega.{arith}
 use lib.Count.{trailing-le}
-use Rattle.slots.proofs.zeros_of.Statement.{statement}
-use Rattle.slots.proofs.zeros_of.Tie as tie
+use Rattle.listing.proofs.zeros_of.Statement.{statement}
+use Rattle.listing.proofs.zeros_of.Tie as tie
 
 cast-result : tie.Need-cast-result
 cast-result c = omega (arith, trailing-le 64 (c .args .w))

@@ -2,16 +2,16 @@ use Prim.Native.Nat.{ℕ, _≤_, _-_, _+_, _<_, _*_}
 use mathlib.Core.Path.{_≡_, refl, sym, ap, _∙_}
 use native.Mathlib.Omega.{arith}
 use lib.ListN.{length, getD}
 use Rattle.slots.specs.Slots.{members}
-use Rattle.slots.proofs.Listing.{tally, tally-ones, size-start, size-end}
-use Rattle.slots.proofs.SlotSet.size.Statement.{statement}
-use Rattle.slots.proofs.SlotSet.size.Tie as tie
+use Rattle.listing.proofs.Listing.{tally, tally-ones, size-start, size-end}
+use Rattle.listing.proofs.size.Statement.{statement}
+use Rattle.listing.proofs.size.Tie as tie
 
 abbrev Inv-loop : tie.InvT-loop
-Inv-loop self n₀ i₀ n i = (i ≤ 8) × (n ≤ 64 * i) × (n ≡ tally (self .words) 0 (64 * i))
+Inv-loop set n₀ i₀ n i = (i ≤ 8) × (n ≤ 64 * i) × (n ≡ tally (set .words) 0 (64 * i))
 
 abbrev μ-loop : tie.MeasureT-loop
-μ-loop self n₀ i₀ n i = 8 - i
+μ-loop set n₀ i₀ n i = 8 - i
 
 loop-holds : tie.Need-loop-holds Inv-loop μ-loop
 loop-holds c = (omega arith, omega arith, sym (size-start ((c) .args .t1 .words)))

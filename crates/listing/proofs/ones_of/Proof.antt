@@ -1,8 +1,8 @@
 use mathlib.Core.Path.{refl}
 use native.Mathlib.Omega.{arith}
 use lib.Count.{ones-le}
-use Rattle.slots.proofs.ones_of.Statement.{statement}
-use Rattle.slots.proofs.ones_of.Tie as tie
+use Rattle.listing.proofs.ones_of.Statement.{statement}
+use Rattle.listing.proofs.ones_of.Tie as tie
 
 cast-result : tie.Need-cast-result
 cast-result c = omega (arith, ones-le 64 (c .args .w) (c .fits .w .fits))

@@ -3,17 +3,17 @@ use mathlib.Core.Path.{_≡_, refl, sym, ap, _∙_}
 use native.Mathlib.Omega.{arith}
 use borrow.Author.Needs.{needs}
 use lib.ListN.{length, getD, length-set}
 use Rattle.slots.specs.Slots.{members, listed, next-above}
-use Rattle.slots.proofs.Listing.{Listing, list-start, list-room, list-turn, list-end, length-listed}
-use Rattle.slots.proofs.SlotSet.write.Statement.{statement}
-use Rattle.slots.proofs.SlotSet.write.Tie as tie
+use Rattle.listing.proofs.Listing.{Listing, list-start, list-room, list-turn, list-end, length-listed}
+use Rattle.listing.proofs.write.Statement.{statement}
+use Rattle.listing.proofs.write.Tie as tie
 use Rattle.laws.specs.Sizes.{slotCount}
 
 abbrev Inv-loop : tie.InvT-loop
-Inv-loop self out₀ at₀ slot₀ out at slot = Listing (self .words) out out₀ at slot
+Inv-loop set out₀ at₀ slot₀ out at slot = Listing (set .words) out out₀ at slot
 
 abbrev μ-loop : tie.MeasureT-loop
-μ-loop self out₀ at₀ slot₀ out at slot = slotCount - slot
+μ-loop set out₀ at₀ slot₀ out at slot = slotCount - slot
 
 next-requires : tie.Need-next-requires Inv-loop μ-loop
 next-requires c κs = tt
@@ -27,7 +27,7 @@ low-requires c κs = omega arith
 slice-write-out : tie.Need-slice-write-out Inv-loop μ-loop
 slice-write-out c = let l = (c .before .before .loop) in
     let r = list-room _ _ _ _ _ (l .inv) ((c .before .loop-test) .taken) in
-    omega (arith, r, l .inv .same, length-listed (members ((c .before .before .before .before .before) .args .self .words)), (c .before .before .before .before .before) .pre)
+    omega (arith, r, l .inv .same, length-listed (members ((c .before .before .before .before .before) .args .set .words)), (c .before .before .before .before .before) .pre)
 
 low-requires-2 : tie.Need-low-requires-2 Inv-loop μ-loop
 low-requires-2 c κs = omega arith
@@ -35,17 +35,17 @@ low-requires-2 c κs = omega arith
 add-out : tie.Need-add-out Inv-loop μ-loop
 add-out c = let l = (c .before .before .before .loop) in
     let r = list-room _ _ _ _ _ (l .inv) ((c .before .before .loop-test) .taken) in
-    omega (arith, r, l .inv .same, length-listed (members ((c .before .before .before .before .before .before) .args .self .words)), (c .before .before .before .before .before .before) .pre, (c .before .before .before .before .before .before) .good)
+    omega (arith, r, l .inv .same, length-listed (members ((c .before .before .before .before .before .before) .args .set .words)), (c .before .before .before .before .before .before) .pre, (c .before .before .before .before .before .before) .good)
 
 slice-write-out-2 : tie.Need-slice-write-out-2 Inv-loop μ-loop
 slice-write-out-2 c = let l = (c .before .before .before .loop) in
     let r = list-room _ _ _ _ _ (l .inv) ((c .before .before .loop-test) .taken) in
-    simp length-set (omega (arith, r, l .inv .same, length-listed (members ((c .before .before .before .before .before .before) .args .self .words)), (c .before .before .before .before .before .before) .pre))
+    simp length-set (omega (arith, r, l .inv .same, length-listed (members ((c .before .before .before .before .before .before) .args .set .words)), (c .before .before .before .before .before .before) .pre))
 
 add-at : tie.Need-add-at Inv-loop μ-loop
 add-at c = let l = (c .before .before .before .loop) in
     let r = list-room _ _ _ _ _ (l .inv) ((c .before .before .loop-test) .taken) in
-    omega (arith, r, l .inv .same, length-listed (members ((c .before .before .before .before .before .before) .args .self .words)), (c .before .before .before .before .before .before) .pre, (c .before .before .before .before .before .before) .good)
+    omega (arith, r, l .inv .same, length-listed (members ((c .before .before .before .before .before .before) .args .set .words)), (c .before .before .before .before .before .before) .pre, (c .before .before .before .before .before .before) .good)
 
 add-next : tie.Need-add-next Inv-loop μ-loop
 add-next c = omega arith

@@ -1,9 +1,9 @@
 use mathlib.Core.Path.{sym, _∙_}
 use native.Mathlib.Omega.{arith}
 use borrow.Author.Needs.{needs}
 use Rattle.slots.specs.Slots.{into-none, into-all}
-use Rattle.slots.proofs.SlotSet.list.Statement.{statement}
-use Rattle.slots.proofs.SlotSet.list.Tie as tie
+use Rattle.listing.proofs.list.Statement.{statement}
+use Rattle.listing.proofs.list.Tie as tie
 
 size-requires : tie.Need-size-requires
 size-requires c κs = tt
@@ -13,7 +13,7 @@ mul-if1 c = omega (arith, c .size .ensures .1)
 
 returns : tie.Need-returns
 returns c = let e = c .before .size .ensures in
-    (e .0, e .1, sym (into-none (c .before .before .before .args .self .words) (c .before .before .before .args .out .now) (omega (arith, e .0, c .if1 .taken))))
+    (e .0, e .1, sym (into-none (c .before .before .before .args .set .words) (c .before .before .before .args .out .now) (omega (arith, e .0, c .if1 .taken))))
 
 write-requires : tie.Need-write-requires
 write-requires c κs = omega (arith, c .before .before .size .ensures .0, c .before .if1 .left)

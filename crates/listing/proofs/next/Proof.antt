@@ -2,16 +2,16 @@ use Prim.Native.Nat.{ℕ, _≤_, _-_, _+_, _<_, _*_}
 use mathlib.Core.Path.{_≡_, refl, sym, ap, _∙_}
 use native.Mathlib.Omega.{arith}
 use native.Mathlib.Decide.{decLt}
 use Rattle.slots.specs.Slots.{has, Next}
-use Rattle.slots.proofs.SlotLaws.{next-found, next-pass}
-use Rattle.slots.proofs.SlotSet.next.Statement.{statement}
-use Rattle.slots.proofs.SlotSet.next.Tie as tie
+use Rattle.listing.proofs.NextLaws.{next-found, next-pass}
+use Rattle.listing.proofs.next.Statement.{statement}
+use Rattle.listing.proofs.next.Tie as tie
 
 abbrev Inv-loop : tie.InvT-loop
-Inv-loop from self i₀ skipped₀ i skipped = (skipped < 64) × (from ≤ i * 64 + skipped) × ((x : ℕ) → from ≤ x → x < i * 64 + skipped → has (self .words) x ≡ 0)
+Inv-loop from set i₀ skipped₀ i skipped = (skipped < 64) × (from ≤ i * 64 + skipped) × ((x : ℕ) → from ≤ x → x < i * 64 + skipped → has (set .words) x ≡ 0)
 
 abbrev μ-loop : tie.MeasureT-loop
-μ-loop from self i₀ skipped₀ i skipped = 8 - i
+μ-loop from set i₀ skipped₀ i skipped = 8 - i
 
 loop-holds : tie.Need-loop-holds Inv-loop μ-loop
 loop-holds c = (omega arith, omega arith, λ x a b. absurd (omega arith))
