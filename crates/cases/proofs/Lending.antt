@@ -15,9 +15,9 @@ use Rattle.calls.specs.declared.Reply.the-variants.{Done, Refused}
 use Rattle.calls.specs.Outcome.{Outcome, outcome, Result, told}
 use Rattle.orders.specs.declared.Order.{Order}
 use Rattle.orders.specs.Orders.{ordered}
-use Rattle.cases.specs.declared.text.Case.{Case}
+use Rattle.casetext.specs.declared.Case.{Case}
 use Rattle.cases.specs.declared.Place.{Place}
-use Rattle.cases.specs.Said.{orderOf}
+use Rattle.caselines.specs.Said.{orderOf}
 use Rattle.cases.specs.Lent.{lentLength, outcomeBack, caseOutcome, roomAfter, placeAfter}
 
 pub cut-other : (short table n : ℕ) → (table ≡ short → ⊥) → n ≡ lentLength short table n

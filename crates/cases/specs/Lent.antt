@@ -9,9 +9,9 @@ use Rattle.laws.specs.Sizes.{answerRoom}
 use Rattle.layout.specs.Tables.{Tables, held}
 use Rattle.calls.specs.Outcome.{Outcome, told}
 use Rattle.orders.specs.Orders.{ordered}
-use Rattle.cases.specs.declared.text.Case.{Case}
+use Rattle.casetext.specs.declared.Case.{Case}
 use Rattle.cases.specs.declared.Place.{Place}
-use Rattle.cases.specs.Said.{orderOf}
+use Rattle.caselines.specs.Said.{orderOf}
 
 -- the length of a table as it is lent: one element less of the table that is to be too short
 abbrev pub lentLength : ℕ → ℕ → ℕ → ℕ

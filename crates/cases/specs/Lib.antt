@@ -1,3 +1,1 @@
-pub mod Said
 pub mod Lent
-pub mod CaseText

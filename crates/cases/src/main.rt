@@ -6,10 +6,11 @@
 // relation (retrieve, numbers), or the argument (argument). `grow` inserts as `insert` does, the second byte of the
 // term one more each time. `buffer` sets the length of the answer buffer, `table` makes one table, 0 to 7, shorter by
 // one element, 8 none.
-mod say;
-mod text;
-
 use calls::Reply;
+use caselines::order_of;
+use caselines::say;
+use casetext::Case;
+use casetext::case_at;
 use laws::ANSWER;
 use laws::BYTES;
 use laws::LABEL;
@@ -19,10 +20,6 @@ use laws::USED;
 use libc::STDIN_FILENO;
 use libc::STDOUT_FILENO;
 use orders::call;
-use say::order_of;
-use say::say;
-use text::Case;
-use text::case_at;
 ghost use mathlib.Core.Path.{_≡_};
 ghost use Prim.Native.Nat.{_+_, _*_, _≤_, _<_};
 ghost use lib.ListN.{length};

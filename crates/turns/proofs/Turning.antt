@@ -1,12 +1,12 @@
 -- Laws of one turn: the line and the stop by order are those of Turns.
-use Prim.Native.Nat.{ℕ, _-_, _*_, _/_, _≤_, min}
-use mathlib.Core.Path.{_≡_, refl, sym, ap, _∙_}
+use Prim.Native.Nat.{ℕ, _-_}
+use mathlib.Core.Path.{_≡_, refl, ap, _∙_}
 use mathlib.Core.Bool.{Bool, true, false}
-use mathlib.Core.Option.{Option, some, none}
+use mathlib.Core.Option.{none}
 use mathlib.Core.List.{List}
 use native.Mathlib.Omega.{arith}
 use borrow.Author.Tests.{ne-eqb}
-use lib.ListN.{length, take}
+use lib.ListN.{length}
 use Rattle.laws.specs.Choice.{pick}
 use Rattle.terms.specs.declared.Refusal.{Refusal}
 use Rattle.terms.specs.Refusals.{numberOf}
@@ -18,26 +18,11 @@ use Rattle.calls.specs.Outcome.{Outcome, outcome, Result, told}
 use Rattle.orders.specs.declared.Order.{Order}
 use Rattle.orders.specs.declared.Order.the-variants.{Open, Insert, Delete, WithKey, Retrieve, Solve, Nothing}
 use Rattle.orders.specs.Orders.{ordered}
-use Rattle.log.specs.Lines.{Put, foundLine, solvedLine, refusedLine}
-use Rattle.turns.specs.Printed.{payload}
-use Rattle.turns.specs.Turns.{InLog, operationOf, operationAt, placePast, resultOf, lineOf, stopsAfter, madeAt, lineAt, nextAt, Turned}
-use Rattle.turns.specs.Spoken.{spokenWord, spokenDone, spoken, ending, stopping}
-
--- a line by another name of its parts
-pub found-put : (l m w out : List ℕ) (a b k r : ℕ) → k ≡ min b (length out / 2) → Put l m 0 (foundLine w a b (take (k * 2) out)) r → Put l m 0 (foundLine w a b (take (min b (length out / 2) * 2) out)) r
-found-put l m w out a b k r e p = rw (sym e) p
-
-pub solved-put : (l m w out : List ℕ) (a b k r : ℕ) → k ≡ min b (length out) → Put l m 0 (solvedLine w a (take k out)) r → Put l m 0 (solvedLine w a (take (min b (length out)) out)) r
-solved-put l m w out a b k r e p = rw (sym e) p
-
-pub done-put : (l m w out : List ℕ) (a b r : ℕ) (o u : Order) → o ≡ u → Put l m 0 (spokenDone u w a b out) r → Put l m 0 (spokenDone o w a b out) r
-done-put l m w out a b r o u e p = rw e p
-
-pub spoken-done : (l m w out : List ℕ) (a b r : ℕ) (o : Order) (reply : Reply) → w ≡ spokenWord o → reply ≡ Done a b → Put l m 0 (spokenDone o w a b out) r → Put l m 0 (spoken o reply out) r
-spoken-done l m w out a b r o reply e f p = rw (f, sym e) p
-
-pub spoken-refused : (l m w out : List ℕ) (n r : ℕ) (o : Order) (why : Refusal) (reply : Reply) → w ≡ spokenWord o → reply ≡ Refused why → n ≡ numberOf why → Put l m 0 (refusedLine w n) r → Put l m 0 (spoken o reply out) r
-spoken-refused l m w out n r o why reply e f g p = rw (f, sym e, sym g) p
+use Rattle.log.specs.Lines.{Put}
+use Rattle.tasks.specs.Operations.{payload}
+use Rattle.tasks.specs.Ordered.{InLog, operationOf, operationAt, placePast}
+use Rattle.answerlines.specs.Spoken.{spoken, ending, stopping}
+use Rattle.turns.specs.Turns.{resultOf, lineOf, stopsAfter, madeAt, lineAt, nextAt, Turned}
 
 -- an order is the call that it is
 ordered-is : (room : ℕ) (order : Order) (T : Tables) (t : List ℕ) → InLog order → ordered order T t room ≡ resultOf room T (operationOf order t)

@@ -16,7 +16,8 @@ use Rattle.library.specs.Store.{Store, openWith, answered}
 use Rattle.log.specs.Reading.{fieldsOf, fieldOr}
 use Rattle.log.specs.declared.field.Field.{Field}
 use Rattle.log.specs.declared.field.Field.the-variants.{End, Cut, Whole}
-use Rattle.turns.specs.Printed.{Operation, toOpen, toInsert, toDelete, toRetrieve, toSolve, libraryCall, Line, answer, log, firstOperation, payload, operationIn, moved, lineThen, laterLines, unlessRefused, unopened, firstLines, linesOf}
+use Rattle.tasks.specs.Operations.{Operation, toOpen, toInsert, toDelete, toRetrieve, toSolve, firstOperation, payload, operationIn}
+use Rattle.turns.specs.Printed.{libraryCall, Line, answer, log, moved, lineThen, laterLines, unlessRefused, unopened, firstLines, linesOf}
 use Rattle.turns.specs.LogApplies.{Faulty, RefusedSignature, SignatureRefused, LogApplies, AllLie, fields-lie, Verdict, later-verdict, SomeFaulty, faulty-here, faulty-there, Stops, FirstVerdict, first-verdict, FaultyIn, Ending, lines-ending, not-nothing}
 
 -- an input that is not too long

@@ -20,7 +20,8 @@ use Rattle.library.specs.Store.{slotsFrom, inUse, freeFrom, put, place?, key?, 
 use Rattle.log.specs.Fields.{fieldAt}
 use Rattle.log.specs.Reading.{before, fieldsWithin, fieldsFrom}
 use Rattle.log.specs.Lines.{digits, decimal, hex, slotList, recordText, plainLine, refusedLine, slotLine, foundLine, solvedLine}
-use Rattle.turns.specs.Printed.{firstOperation, laterOperation, laterLines, firstLines, linesOf, textOfAll, printed}
+use Rattle.tasks.specs.Operations.{firstOperation, laterOperation}
+use Rattle.turns.specs.Printed.{laterLines, firstLines, linesOf, textOfAll, printed}
 
 -- 'the input in hex', field by field
 abbrev pub input : List ℕ

@@ -1,6 +1,5 @@
 pub mod Printed
 pub mod Turns
-pub mod Spoken
 pub mod Example
 pub mod LongestLine
 pub mod LogApplies

@@ -23,7 +23,9 @@ use Rattle.log.specs.Reading.{placeAfter, before, fieldsWithin, fieldsFrom, fie
 use Rattle.log.specs.declared.field.Field.{Field}
 use Rattle.log.specs.declared.field.Field.the-variants.{End, Cut, Whole}
 use Rattle.log.proofs.Fields.{field-inside}
-use Rattle.turns.specs.Printed.{Operation, toOpen, toInsert, toDelete, toRetrieve, toSolve, libraryCall, Line, answer, log, firstOperation, deleteOperation, retrieveOperation, solveOperation, laterOperation, payload, operationIn, moved, lineThen, laterLines, unlessRefused, unopened, firstLines, linesOf, textOf, wordOf, answerText}
+use Rattle.tasks.specs.Operations.{Operation, toOpen, toInsert, toDelete, toRetrieve, toSolve, firstOperation, deleteOperation, retrieveOperation, solveOperation, laterOperation, payload, operationIn}
+use Rattle.answerlines.specs.Words.{wordOf}
+use Rattle.turns.specs.Printed.{libraryCall, Line, answer, log, moved, lineThen, laterLines, unlessRefused, unopened, firstLines, linesOf, textOf, answerText}
 
 -- a whole field, number i of its log, with this tag and a payload of n bytes, that LOG is printed for
 pub data Wrong (i tag n : ℕ) : Type 0 where

@@ -31,7 +31,9 @@ use Rattle.log.specs.declared.field.Field.{Field}
 use Rattle.log.specs.declared.field.Field.the-variants.{End, Cut, Whole}
 use Rattle.log.specs.Reading.{fieldsOf}
 use Rattle.log.proofs.LogLaws.{decimal-one, decimal-more}
-use Rattle.turns.specs.Printed.{Operation, toOpen, toInsert, toDelete, toRetrieve, toSolve, libraryCall, Line, log, operationIn, moved, lineThen, laterLines, unlessRefused, unopened, firstLines, linesOf, wordOf, logWord, answerText, textOf}
+use Rattle.tasks.specs.Operations.{Operation, toOpen, toInsert, toDelete, toRetrieve, toSolve, operationIn}
+use Rattle.answerlines.specs.Words.{wordOf, logWord}
+use Rattle.turns.specs.Printed.{libraryCall, Line, log, moved, lineThen, laterLines, unlessRefused, unopened, firstLines, linesOf, answerText, textOf}
 
 -- NUMBERS below 1,000 have at most three digits
 decimal-first : (n : ℕ) → n < 10 → length (decimal n) ≤ 1

@@ -36,8 +36,11 @@ use Rattle.log.specs.Reading.{placeAfter, takenAt, before, fieldsFrom, fieldsOf
 use Rattle.log.specs.Lines.{Put, refusedLine, plainLine}
 use Rattle.log.proofs.Fields.{field-end, taken-onward}
 use Rattle.log.proofs.Reading.{next-first}
-use Rattle.turns.specs.Printed.{Operation, toOpen, toInsert, toDelete, toRetrieve, toSolve, libraryCall, firstOperation, deleteOperation, retrieveOperation, solveOperation, laterOperation, payload, operationIn, Line, answer, log, moved, lineThen, laterLines, unlessRefused, unopened, firstLines, linesOf, wordOf, logWord, doneText, answerText, textOf, textOfAll, printed}
-use Rattle.turns.specs.Turns.{operationAt, placePast, resultOf, toldBytes, lineOf, stopsAfter, madeAt, lineAt, nextAt, Turned}
+use Rattle.tasks.specs.Operations.{Operation, toOpen, toInsert, toDelete, toRetrieve, toSolve, firstOperation, deleteOperation, retrieveOperation, solveOperation, laterOperation, payload, operationIn}
+use Rattle.tasks.specs.Ordered.{operationAt, placePast}
+use Rattle.answerlines.specs.Words.{wordOf, logWord}
+use Rattle.turns.specs.Printed.{libraryCall, Line, answer, log, moved, lineThen, laterLines, unlessRefused, unopened, firstLines, linesOf, doneText, answerText, textOf, textOfAll, printed}
+use Rattle.turns.specs.Turns.{resultOf, toldBytes, lineOf, stopsAfter, madeAt, lineAt, nextAt, Turned}
 use Rattle.turns.specs.LongestLine.{answer-fits, log-fits}
 
 -- THE PROGRAM'S LOOP: turns from a place on until the input's end, each with the promise of `turns::turn`; what is

@@ -1,67 +1,24 @@
 -- SCOPE.md, 'The log program': one turn of the program on lent tables, whatever they hold, in the words of
--- Printed.antt: which call the field at a place is, that the call is made, its line, and where the next field starts.
-use Prim.Native.Nat.{ℕ, _*_, _/_, _≤_, min}
+-- Printed.antt and of tasks/specs/Ordered: that the call of the field at a place is made, its line, and where the next
+-- field starts.
+use Prim.Native.Nat.{ℕ, _*_, _/_, min}
 use mathlib.Core.Path.{_≡_}
 use mathlib.Core.Bool.{Bool, true, false}
 use mathlib.Core.Option.{Option, some, none}
 use mathlib.Core.List.{List}
-use lib.Dec.{ltb, eqb}
-use lib.ListN.{length, take, drop}
+use lib.Dec.{eqb}
+use lib.ListN.{length, take}
 use Rattle.laws.specs.Choice.{pick}
-use Rattle.laws.specs.Sizes.{inputLimit}
 use Rattle.terms.specs.declared.Refusal.the-variants as Refusal
 use Rattle.definitions.specs.Answers.{refuse}
 use Rattle.layout.specs.Tables.{Tables}
 use Rattle.calls.specs.Outcome.{Outcome, Result, result, told}
 use Rattle.meaning.specs.Runs.{carried}
-use Rattle.log.specs.Fields.{fieldAt}
-use Rattle.log.specs.Reading.{placeAfter}
 use Rattle.log.specs.Lines.{Put, refusedLine}
-use Rattle.orders.specs.declared.Order.{Order}
-use Rattle.orders.specs.declared.Order.the-variants.{Open, Insert, Delete, WithKey, Retrieve, Solve, Nothing}
-use Rattle.turns.specs.Printed.{Operation, toOpen, toInsert, toDelete, toRetrieve, toSolve, libraryCall, operationIn, wordOf, logWord, doneText}
-
--- THE ORDER OF A FIELD: t is what stands after the fixed part of the payload
-abbrev pub fixedPart : Order → ℕ
-fixedPart (Delete s) = 2
-fixedPart (Retrieve r) = 1
-fixedPart (Solve s) = 2
-fixedPart Open = 0
-fixedPart Insert = 0
-fixedPart WithKey = 0
-fixedPart Nothing = 0
-
--- the orders that a field can give
-abbrev pub InLog : Order → Type 0
-InLog Open = Unit {0}
-InLog Insert = Unit {0}
-InLog (Delete s) = Unit {0}
-InLog WithKey = ⊥
-InLog (Retrieve r) = Unit {0}
-InLog (Solve s) = Unit {0}
-InLog Nothing = Unit {0}
-
-abbrev pub operationOf : Order → List ℕ → Option Operation
-operationOf Open t = some (toOpen t)
-operationOf Insert t = some (toInsert t)
-operationOf (Delete s) t = some (toDelete s)
-operationOf WithKey t = none
-operationOf (Retrieve r) t = some (toRetrieve r t)
-operationOf (Solve s) t = some (toSolve s t)
-operationOf Nothing t = none
-
--- an order is the operation c of a payload p
-pub record Ordered (order : Order) (p : List ℕ) (c : Option Operation) : Type 0 where
-  pub logged : InLog order
-  pub fixed : fixedPart order ≤ length p
-  pub operation : operationOf order (drop (fixedPart order) p) ≡ c
-
--- the operation of the field at a place, and the place past it; too long an input is none
-unfoldable pub operationAt : List ℕ → ℕ → Option Operation
-operationAt s at = pick (ltb inputLimit (length s)) none (operationIn (eqb at 0) s (fieldAt s at))
-
-unfoldable pub placePast : List ℕ → ℕ → ℕ
-placePast s at = pick (ltb inputLimit (length s)) (length s) (placeAfter s at)
+use Rattle.tasks.specs.Operations.{Operation, toOpen, toInsert, toDelete, toRetrieve, toSolve}
+use Rattle.tasks.specs.Ordered.{operationAt, placePast}
+use Rattle.answerlines.specs.Words.{wordOf, logWord}
+use Rattle.turns.specs.Printed.{libraryCall, doneText}
 
 -- THE TURN. What is made of the operation on the lent tables; none is the refusal LOG
 abbrev pub resultOf : ℕ → Tables → Option Operation → Result

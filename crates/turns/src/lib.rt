@@ -1,12 +1,9 @@
 // One turn of the log program: the field at a place of the log, its call on the lent tables, its line (SCOPE.md, 'The
 // log program').
-mod order;
-mod say;
-
-use order::task_at;
+use answerlines::say;
+use answerlines::stops;
 use orders::call;
-use say::say;
-use say::stops;
+use tasks::task_at;
 ghost use mathlib.Core.Path.{_≡_};
 ghost use Rattle.laws.specs.Choice.{pick};
 ghost use Rattle.layout.specs.Tables.{held};
