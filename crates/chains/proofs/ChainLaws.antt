@@ -9,9 +9,9 @@ use borrow.Author.Tests.{eq-eqb, ne-eqb}
 use native.Mathlib.Omega.{arith}
 use Rattle.laws.specs.Choice.{pick}
 use Rattle.chains.specs.Chains.{foundFrom, unlink, home, find, taken, pushed, relinked, longer}
-use Rattle.laws.specs.Sizes.{freeHead, keyLimit}
+use Rattle.laws.specs.Sizes.{chainCount, freeHead, keyLimit}
 
-pub home-label : (w : ℕ) → (w ≡ 0 → ⊥) → keyLimit + (w - 1) % 4093 ≡ home w
+pub home-label : (w : ℕ) → (w ≡ 0 → ⊥) → keyLimit + (w - 1) % chainCount ≡ home w
 unfolding home
 home-label zero h = absurd (h refl)
 home-label (suc w) h = rw sub-one

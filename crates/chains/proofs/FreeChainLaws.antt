@@ -7,7 +7,7 @@ use native.Mathlib.Omega.{arith}
 use lib.ListN.{length, getD, set, length-set}
 use lib.Seq.{getD-set-same, getD-set-other}
 use Rattle.chains.specs.FreeChain.{FreeChain, NoHeads, Freed}
-use Rattle.laws.specs.Sizes.{freeHead, linkLength}
+use Rattle.laws.specs.Sizes.{freeHead, lastKey, linkLength}
 
 pub chain-start : (l : List ℕ) → FreeChain l l 0
 chain-start l = record { same = refl; next = λ k h. absurd (omega arith); rest = λ k h. refl }
@@ -23,10 +23,10 @@ chain-turn l m n v h e p = record {
     go k a (yes q) = rw q (getD-set-same m n v 0 h ∙ e)
     go k a (no q) = getD-set-other m n k v 0 q ∙ p .next k (omega arith)
 
-pub heads-start : (l : List ℕ) → NoHeads l l 4095
+pub heads-start : (l : List ℕ) → NoHeads l l lastKey
 heads-start l = record { same = refl; ended = λ k a b. absurd (omega arith); below = λ k h. refl; rest = λ k h. refl }
 
-pub heads-turn : (l m : List ℕ) (n : ℕ) → n < length m → 4095 ≤ n → NoHeads l m n → NoHeads l (set m n 0) (n + 1)
+pub heads-turn : (l m : List ℕ) (n : ℕ) → n < length m → lastKey ≤ n → NoHeads l m n → NoHeads l (set m n 0) (n + 1)
 heads-turn l m n h b p = record {
   same = length-set m n 0 ∙ p .same;
   ended = λ k a d. go k a d (ℕ-discrete k n);
@@ -34,11 +34,11 @@ heads-turn l m n h b p = record {
   rest = λ k a. getD-set-other m n k 0 0 (λ q. omega (arith, q)) ∙ p .rest k (omega arith);
 }
   where
-    go : (k : ℕ) → 4095 ≤ k → k < n + 1 → Dec (k ≡ n) → getD (set m n 0) k 0 ≡ 0
+    go : (k : ℕ) → lastKey ≤ k → k < n + 1 → Dec (k ≡ n) → getD (set m n 0) k 0 ≡ 0
     go k a d (yes q) = rw q (getD-set-same m n 0 0 h)
     go k a d (no q) = getD-set-other m n k 0 0 q ∙ p .ended k a (omega arith)
 
-pub freed : (l m r : List ℕ) → linkLength ≤ length l → FreeChain l m 4095 → NoHeads m r freeHead → Freed l (set r freeHead 1)
+pub freed : (l m r : List ℕ) → linkLength ≤ length l → FreeChain l m lastKey → NoHeads m r freeHead → Freed l (set r freeHead 1)
 freed l m r h p q =
     let e : length r ≡ length l = q .same ∙ p .same in
     record {

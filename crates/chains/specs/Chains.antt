@@ -15,12 +15,12 @@ use lib.ListN.{length, getD, set, length-set}
 use lib.Seq.{getD-set-same, getD-set-other}
 use Rattle.laws.specs.Members.{In, NoDup, nodup-bound}
 use Rattle.laws.specs.Choice.{pick}
-use Rattle.laws.specs.Sizes.{freeHead, keyLimit, linkLength}
+use Rattle.laws.specs.Sizes.{chainCount, freeHead, keyLimit, linkLength}
 
 -- where the chain of a label starts: the free keys, whose label is 0, have a chain of their own
 unfoldable pub home : ℕ → ℕ
 home zero = freeHead
-home (suc l) = keyLimit + l % 4093
+home (suc l) = keyLimit + l % chainCount
 
 -- the first key with label w on the chain from the link x on; 4096 where there is none
 unfoldable pub foundFrom : List ℕ → List ℕ → ℕ → ℕ → ℕ → ℕ

@@ -1,15 +1,18 @@
 // Keys by their labels: chains through a table of links.
+use laws::CHAINS;
 use laws::FREE;
 use laws::KEYS;
+use laws::LAST_KEY;
 use laws::low16;
 use laws::wide16;
 use laws::wide32;
 ghost use mathlib.Core.Path.{_≡_};
 ghost use Prim.Native.Nat.{_+_, _-_, _*_, _%_, _≤_, _<_, suc};
 ghost use lib.ListN.{length, getD, set};
-ghost use Rattle.chains.specs.Chains.{home as homeOf, find as findOf, unlink as unlinkOf, taken, pushed, relinked, longer};
+ghost use Rattle.chains.specs.Chains.{home as homeOf, find as findOf, unlink as unlinkOf};
+ghost use Rattle.chains.specs.Chains.{taken, pushed, relinked, longer};
 ghost use Rattle.chains.specs.FreeChain.{FreeChain, NoHeads, Freed};
-ghost use Rattle.laws.specs.Sizes.{freeHead, keyLimit, linkLength};
+ghost use Rattle.laws.specs.Sizes.{freeHead, keyLimit, lastKey, linkLength};
 
 fn home(w: u32) -> usize
     ensures { λ r. ⌜ (r ≡ homeOf w) × (keyLimit ≤ r) × (r < linkLength) ⌝ }
@@ -17,7 +20,7 @@ fn home(w: u32) -> usize
     if w == 0 {
         return FREE;
     }
-    KEYS + (wide32(w) - 1) % 4093
+    KEYS + (wide32(w) - 1) % CHAINS
 }
 
 // The key with label `w`, or 4096.
@@ -100,10 +103,10 @@ pub fn roomy(link: &[u16], m: usize) -> bool
 // The free keys in order: each leads to the next one.
 fn free_chain(link: &mut [u16])
     requires { ⌜ linkLength ≤ length (now link) ⌝ }
-    ensures { λ _. ⌜ FreeChain (now (link .entry)) (now (link .exit)) 4095 ⌝ }
+    ensures { λ _. ⌜ FreeChain (now (link .entry)) (now (link .exit)) lastKey ⌝ }
 {
     let mut i: usize = 0;
-    while i < 4095 {
+    while i < LAST_KEY {
         link[i] = low16(i + 2);
         i += 1;
     }
@@ -114,7 +117,7 @@ fn clear_heads(link: &mut [u16])
     requires { ⌜ linkLength ≤ length (now link) ⌝ }
     ensures { λ _. ⌜ NoHeads (now (link .entry)) (now (link .exit)) freeHead ⌝ }
 {
-    let mut i: usize = 4095;
+    let mut i: usize = LAST_KEY;
     while i < FREE {
         link[i] = 0;
         i += 1;

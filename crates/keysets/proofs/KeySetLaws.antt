@@ -13,58 +13,58 @@ use Rattle.slots.specs.Slots.{words8}
 use native.Mathlib.Omega.{arith}
 use Rattle.laws.specs.Choice.{pick}
 use Rattle.keysets.specs.KeySets.{Sets, four, tab, putTab, word, putWord, mark, unmark, on, off, zeros, met}
-use Rattle.laws.specs.Sizes.{keyLimit}
+use Rattle.laws.specs.Sizes.{keyLimit, setKeys}
 
 module _ (a b c d : List ℕ) (k i : ℕ) where
   at : ℕ
-  at = k % 1024 * 8 + i
+  at = k % setKeys * 8 + i
 
-  pub word-0 : k / 1024 ≡ 0 → getD a (k % 1024 * 8 + i) 0 ≡ word (four a b c d) k i
+  pub word-0 : k / setKeys ≡ 0 → getD a (k % setKeys * 8 + i) 0 ≡ word (four a b c d) k i
   unfolding word tab
   word-0 h = rw h
 
-  pub word-1 : k / 1024 ≡ 1 → getD b (k % 1024 * 8 + i) 0 ≡ word (four a b c d) k i
+  pub word-1 : k / setKeys ≡ 1 → getD b (k % setKeys * 8 + i) 0 ≡ word (four a b c d) k i
   unfolding word tab
   word-1 h = rw h
 
-  pub word-2 : k / 1024 ≡ 2 → getD c (k % 1024 * 8 + i) 0 ≡ word (four a b c d) k i
+  pub word-2 : k / setKeys ≡ 2 → getD c (k % setKeys * 8 + i) 0 ≡ word (four a b c d) k i
   unfolding word tab
   word-2 h = rw h
 
-  pub word-3 : k / 1024 ≡ 3 → getD d (k % 1024 * 8 + i) 0 ≡ word (four a b c d) k i
+  pub word-3 : k / setKeys ≡ 3 → getD d (k % setKeys * 8 + i) 0 ≡ word (four a b c d) k i
   unfolding word tab
   word-3 h = rw h
 
 module _ (a b c d x : List ℕ) (k s : ℕ) where
-  pub mark-0 : k / 1024 ≡ 0 → x ≡ set a (k % 1024 * 8 + s / 64) (on (getD a (k % 1024 * 8 + s / 64) 0) (s % 64)) → four x b c d ≡ mark (four a b c d) k s
+  pub mark-0 : k / setKeys ≡ 0 → x ≡ set a (k % setKeys * 8 + s / 64) (on (getD a (k % setKeys * 8 + s / 64) 0) (s % 64)) → four x b c d ≡ mark (four a b c d) k s
   unfolding mark putWord putTab word tab
   mark-0 h e = rw (h, e)
 
-  pub mark-1 : k / 1024 ≡ 1 → x ≡ set b (k % 1024 * 8 + s / 64) (on (getD b (k % 1024 * 8 + s / 64) 0) (s % 64)) → four a x c d ≡ mark (four a b c d) k s
+  pub mark-1 : k / setKeys ≡ 1 → x ≡ set b (k % setKeys * 8 + s / 64) (on (getD b (k % setKeys * 8 + s / 64) 0) (s % 64)) → four a x c d ≡ mark (four a b c d) k s
   unfolding mark putWord putTab word tab
   mark-1 h e = rw (h, e)
 
-  pub mark-2 : k / 1024 ≡ 2 → x ≡ set c (k % 1024 * 8 + s / 64) (on (getD c (k % 1024 * 8 + s / 64) 0) (s % 64)) → four a b x d ≡ mark (four a b c d) k s
+  pub mark-2 : k / setKeys ≡ 2 → x ≡ set c (k % setKeys * 8 + s / 64) (on (getD c (k % setKeys * 8 + s / 64) 0) (s % 64)) → four a b x d ≡ mark (four a b c d) k s
   unfolding mark putWord putTab word tab
   mark-2 h e = rw (h, e)
 
-  pub mark-3 : k / 1024 ≡ 3 → x ≡ set d (k % 1024 * 8 + s / 64) (on (getD d (k % 1024 * 8 + s / 64) 0) (s % 64)) → four a b c x ≡ mark (four a b c d) k s
+  pub mark-3 : k / setKeys ≡ 3 → x ≡ set d (k % setKeys * 8 + s / 64) (on (getD d (k % setKeys * 8 + s / 64) 0) (s % 64)) → four a b c x ≡ mark (four a b c d) k s
   unfolding mark putWord putTab word tab
   mark-3 h e = rw (h, e)
 
-  pub unmark-0 : k / 1024 ≡ 0 → x ≡ set a (k % 1024 * 8 + s / 64) (off (getD a (k % 1024 * 8 + s / 64) 0) (s % 64)) → four x b c d ≡ unmark (four a b c d) k s
+  pub unmark-0 : k / setKeys ≡ 0 → x ≡ set a (k % setKeys * 8 + s / 64) (off (getD a (k % setKeys * 8 + s / 64) 0) (s % 64)) → four x b c d ≡ unmark (four a b c d) k s
   unfolding unmark putWord putTab word tab
   unmark-0 h e = rw (h, e)
 
-  pub unmark-1 : k / 1024 ≡ 1 → x ≡ set b (k % 1024 * 8 + s / 64) (off (getD b (k % 1024 * 8 + s / 64) 0) (s % 64)) → four a x c d ≡ unmark (four a b c d) k s
+  pub unmark-1 : k / setKeys ≡ 1 → x ≡ set b (k % setKeys * 8 + s / 64) (off (getD b (k % setKeys * 8 + s / 64) 0) (s % 64)) → four a x c d ≡ unmark (four a b c d) k s
   unfolding unmark putWord putTab word tab
   unmark-1 h e = rw (h, e)
 
-  pub unmark-2 : k / 1024 ≡ 2 → x ≡ set c (k % 1024 * 8 + s / 64) (off (getD c (k % 1024 * 8 + s / 64) 0) (s % 64)) → four a b x d ≡ unmark (four a b c d) k s
+  pub unmark-2 : k / setKeys ≡ 2 → x ≡ set c (k % setKeys * 8 + s / 64) (off (getD c (k % setKeys * 8 + s / 64) 0) (s % 64)) → four a b x d ≡ unmark (four a b c d) k s
   unfolding unmark putWord putTab word tab
   unmark-2 h e = rw (h, e)
 
-  pub unmark-3 : k / 1024 ≡ 3 → x ≡ set d (k % 1024 * 8 + s / 64) (off (getD d (k % 1024 * 8 + s / 64) 0) (s % 64)) → four a b c x ≡ unmark (four a b c d) k s
+  pub unmark-3 : k / setKeys ≡ 3 → x ≡ set d (k % setKeys * 8 + s / 64) (off (getD d (k % setKeys * 8 + s / 64) 0) (s % 64)) → four a b c x ≡ unmark (four a b c d) k s
   unfolding unmark putWord putTab word tab
   unmark-3 h e = rw (h, e)
 
@@ -93,7 +93,7 @@ unfolding met
 met-none σ k ws h = rw (le-ltb k keyLimit h)
 
 -- the set of a key from the table that holds it
-pub met-at : (σ : Sets) (k : ℕ) (ws t : List ℕ) → k < keyLimit → ((i : ℕ) → getD t (k % 1024 * 8 + i) 0 ≡ word σ k i)
-    → words8 (λ i. bitAnd (getD t (k % 1024 * 8 + i) 0) (getD ws i 0)) ≡ met σ k ws
+pub met-at : (σ : Sets) (k : ℕ) (ws t : List ℕ) → k < keyLimit → ((i : ℕ) → getD t (k % setKeys * 8 + i) 0 ≡ word σ k i)
+    → words8 (λ i. bitAnd (getD t (k % setKeys * 8 + i) 0) (getD ws i 0)) ≡ met σ k ws
 unfolding met
 met-at σ k ws t h e = rw (lt-ltb k keyLimit h) (words8-same _ _ (λ i. ap (λ (w : ℕ). bitAnd w (getD ws i 0)) (e i)))

@@ -18,7 +18,7 @@ use lib.Seq.{getD-set-same, getD-set-other}
 use Rattle.laws.specs.Choice.{pick}
 use Rattle.slots.specs.Slots.{words8}
 use Rattle.laws.specs.Digits.{bit, bit-and, bit-or, bit-xor, bit-pow-same, bit-pow-other, differ-self, differ-zero, bit-suc, bit-zero, some-bit}
-use Rattle.laws.specs.Sizes.{keyLimit, setLength, slotCount}
+use Rattle.laws.specs.Sizes.{keyLimit, setKeys, setLength, slotCount}
 
 -- what setting and clearing one digit does
 unfoldable pub on : ℕ → ℕ → ℕ
@@ -92,10 +92,10 @@ tab-other σ (suc (suc (suc q))) (suc (suc (suc p))) l a b h = absurd (h (omega 
 
 -- word i of the set of key k
 unfoldable pub word : Sets → ℕ → ℕ → ℕ
-word σ k i = getD (tab σ (k / 1024)) (k % 1024 * 8 + i) 0
+word σ k i = getD (tab σ (k / setKeys)) (k % setKeys * 8 + i) 0
 
 unfoldable pub putWord : Sets → ℕ → ℕ → ℕ → Sets
-putWord σ k i v = putTab σ (k / 1024) (set (tab σ (k / 1024)) (k % 1024 * 8 + i) v)
+putWord σ k i v = putTab σ (k / setKeys) (set (tab σ (k / setKeys)) (k % setKeys * 8 + i) v)
 
 pub record Ok (σ : Sets) : Type 0 where
   pub long : (q : ℕ) → q < 4 → setLength ≤ length (tab σ q)
@@ -103,15 +103,15 @@ pub record Ok (σ : Sets) : Type 0 where
 
 word-same : (σ : Sets) (k i v : ℕ) → Ok σ → k < keyLimit → i < 8 → word (putWord σ k i v) k i ≡ v
 unfolding word putWord
-word-same σ k i v o l h = rw tab-same (getD-set-same (tab σ (k / 1024)) (k % 1024 * 8 + i) v 0 (omega (arith, o .long (k / 1024) (omega arith))))
+word-same σ k i v o l h = rw tab-same (getD-set-same (tab σ (k / setKeys)) (k % setKeys * 8 + i) v 0 (omega (arith, o .long (k / setKeys) (omega arith))))
 
 word-other : (σ : Sets) (k i v j e : ℕ) → k < keyLimit → j < keyLimit → i < 8 → e < 8 → ((j ≡ k) × (e ≡ i) → ⊥) → word (putWord σ k i v) j e ≡ word σ j e
 unfolding word putWord
-word-other σ k i v j e l m a b h = go (ℕ-discrete (j / 1024) (k / 1024))
+word-other σ k i v j e l m a b h = go (ℕ-discrete (j / setKeys) (k / setKeys))
   where
-    go : Dec (j / 1024 ≡ k / 1024) → getD (tab (putTab σ (k / 1024) (set (tab σ (k / 1024)) (k % 1024 * 8 + i) v)) (j / 1024)) (j % 1024 * 8 + e) 0 ≡ getD (tab σ (j / 1024)) (j % 1024 * 8 + e) 0
-    go (yes q) = rw (q, tab-same) (getD-set-other (tab σ (k / 1024)) (k % 1024 * 8 + i) (j % 1024 * 8 + e) v 0 (λ z. h (omega arith, omega arith)))
-    go (no q) = rw (tab-other σ (k / 1024) (j / 1024) (set (tab σ (k / 1024)) (k % 1024 * 8 + i) v) (omega arith) (omega arith) q)
+    go : Dec (j / setKeys ≡ k / setKeys) → getD (tab (putTab σ (k / setKeys) (set (tab σ (k / setKeys)) (k % setKeys * 8 + i) v)) (j / setKeys)) (j % setKeys * 8 + e) 0 ≡ getD (tab σ (j / setKeys)) (j % setKeys * 8 + e) 0
+    go (yes q) = rw (q, tab-same) (getD-set-other (tab σ (k / setKeys)) (k % setKeys * 8 + i) (j % setKeys * 8 + e) v 0 (λ z. h (omega arith, omega arith)))
+    go (no q) = rw (tab-other σ (k / setKeys) (j / setKeys) (set (tab σ (k / setKeys)) (k % setKeys * 8 + i) v) (omega arith) (omega arith) q)
 
 -- slot s is in the set of key k
 abbrev pub mem : Sets → ℕ → ℕ → Type 0
@@ -182,11 +182,11 @@ unmark-law σ k s o l m j t = ((λ w. let h = gone w in (((w .0), (w .1), (sym (
 -- the words stay words
 put-long : (σ : Sets) (k i v q : ℕ) → Ok σ → k < keyLimit → q < 4 → setLength ≤ length (tab (putWord σ k i v) q)
 unfolding putWord
-put-long σ k i v q o l h = go (ℕ-discrete q (k / 1024))
+put-long σ k i v q o l h = go (ℕ-discrete q (k / setKeys))
   where
-    go : Dec (q ≡ k / 1024) → setLength ≤ length (tab (putTab σ (k / 1024) (set (tab σ (k / 1024)) (k % 1024 * 8 + i) v)) q)
-    go (yes z) = rw (z, tab-same, length-set) (o .long (k / 1024) (omega arith))
-    go (no z) = rw (tab-other σ (k / 1024) q (set (tab σ (k / 1024)) (k % 1024 * 8 + i) v) (omega arith) h z) (o .long q h)
+    go : Dec (q ≡ k / setKeys) → setLength ≤ length (tab (putTab σ (k / setKeys) (set (tab σ (k / setKeys)) (k % setKeys * 8 + i) v)) q)
+    go (yes z) = rw (z, tab-same, length-set) (o .long (k / setKeys) (omega arith))
+    go (no z) = rw (tab-other σ (k / setKeys) q (set (tab σ (k / setKeys)) (k % setKeys * 8 + i) v) (omega arith) h z) (o .long q h)
 
 put-ok : (σ : Sets) (k i v : ℕ) → Ok σ → k < keyLimit → i < 8 → v < 2 ^ 64 → Ok (putWord σ k i v)
 put-ok σ k i v o l h f = record { long = λ q a. put-long σ k i v q o l a; fits = λ j e a b. go j e a b (ℕ-discrete j k) (ℕ-discrete e i) }

@@ -1,12 +1,14 @@
 // The slot sets of 4,096 keys, in four tables.
 use laws::KEYS;
+use laws::SET_KEYS;
 use slots::SlotSet;
 ghost use mathlib.Core.Path.{_≡_};
 ghost use lib.Bits.{bitAnd};
 ghost use Rattle.slots.specs.Slots.{words8};
 ghost use Prim.Native.Nat.{_+_, _-_, _*_, _/_, _%_, _^_, _≤_, _<_};
 ghost use lib.ListN.{length, getD, set};
-ghost use Rattle.keysets.specs.KeySets.{four, word as wordOf, mark as markOf, unmark as unmarkOf, emptyb, on, off, Long, met};
+ghost use Rattle.keysets.specs.KeySets.{four, word as wordOf, mark as markOf, unmark as unmarkOf};
+ghost use Rattle.keysets.specs.KeySets.{emptyb, on, off, Long, met};
 ghost use Rattle.laws.specs.Sizes.{keyLimit, slotCount};
 
 fn set_bit(t: &mut [u64], at: usize, b: usize)
@@ -29,8 +31,8 @@ pub fn word(s0: &[u64], s1: &[u64], s2: &[u64], s3: &[u64], k: usize, i: usize) 
     requires { ⌜ Long (now s0) (now s1) (now s2) (now s3) × (k < keyLimit) × (i < 8) ⌝ }
     ensures { λ r. ⌜ r ≡ wordOf (four (now (s0 .entry)) (now (s1 .entry)) (now (s2 .entry)) (now (s3 .entry))) k i ⌝ }
 {
-    let q = k / 1024;
-    let at = k % 1024 * 8 + i;
+    let q = k / SET_KEYS;
+    let at = k % SET_KEYS * 8 + i;
     if q == 0 {
         return s0[at];
     }
@@ -48,8 +50,8 @@ pub fn mark(s0: &mut [u64], s1: &mut [u64], s2: &mut [u64], s3: &mut [u64], k: u
     ensures { λ _. ⌜ four (now (s0 .exit)) (now (s1 .exit)) (now (s2 .exit)) (now (s3 .exit))
         ≡ markOf (four (now (s0 .entry)) (now (s1 .entry)) (now (s2 .entry)) (now (s3 .entry))) k s ⌝ }
 {
-    let q = k / 1024;
-    let at = k % 1024 * 8 + s / 64;
+    let q = k / SET_KEYS;
+    let at = k % SET_KEYS * 8 + s / 64;
     let b = s % 64;
     if q == 0 {
         set_bit(s0, at, b);
@@ -71,8 +73,8 @@ pub fn unmark(s0: &mut [u64], s1: &mut [u64], s2: &mut [u64], s3: &mut [u64], k:
     ensures { λ _. ⌜ four (now (s0 .exit)) (now (s1 .exit)) (now (s2 .exit)) (now (s3 .exit))
         ≡ unmarkOf (four (now (s0 .entry)) (now (s1 .entry)) (now (s2 .entry)) (now (s3 .entry))) k s ⌝ }
 {
-    let q = k / 1024;
-    let at = k % 1024 * 8 + s / 64;
+    let q = k / SET_KEYS;
+    let at = k % SET_KEYS * 8 + s / 64;
     let b = s % 64;
     if q == 0 {
         clear_bit(s0, at, b);
@@ -126,8 +128,8 @@ pub fn meet(s0: &[u64], s1: &[u64], s2: &[u64], s3: &[u64], k: usize, within: Sl
     if KEYS <= k {
         return SlotSet::empty();
     }
-    let q = k / 1024;
-    let at = k % 1024 * 8;
+    let q = k / SET_KEYS;
+    let at = k % SET_KEYS * 8;
     if q == 0 {
         return and_at(s0, at, within);
     }

@@ -1,6 +1,6 @@
 -- Every size of the library, said once: SCOPE.md, 'Store', 'Term bytes' and 'Numbers of refusal', and docs/TABLES.md.
 -- A table grows by its line here and by its constant in src/lib.rt.
-use Prim.Native.Nat.{ℕ, _+_, _-_, _*_}
+use Prim.Native.Nat.{ℕ, _+_, _-_, _*_, _/_}
 
 -- 'there are slots 0 to 511'
 abbrev pub slotCount : ℕ
@@ -10,12 +10,19 @@ slotCount = 512
 abbrev pub keyLimit : ℕ
 keyLimit = 4096
 
+abbrev pub lastKey : ℕ
+lastKey = keyLimit - 1
+
 -- '0x8000 + v with v from 0 to 31 is variable v'
 abbrev pub variableBase : ℕ
 variableBase = 32768
 
 abbrev pub variableEnd : ℕ
 variableEnd = variableBase + 32
+
+-- in a written term: the variables of both sides
+abbrev pub writtenEnd : ℕ
+writtenEnd = variableBase + 64
 
 -- LONG: 'some value has over 2,048 items'
 abbrev pub valueLimit : ℕ
@@ -41,12 +48,18 @@ abbrev pub labelLength : ℕ
 labelLength = keyLimit
 
 -- sets: a quarter of the keys in each of four tables, eight words a key
+abbrev pub setKeys : ℕ
+setKeys = keyLimit / 4
+
 abbrev pub setLength : ℕ
-setLength = 2 * keyLimit
+setLength = 8 * setKeys
 
 -- link: a link for each key, the heads of 4,093 chains, the chain of free keys
+abbrev pub chainCount : ℕ
+chainCount = keyLimit - 3
+
 abbrev pub linkLength : ℕ
-linkLength = 2 * keyLimit - 2
+linkLength = keyLimit + chainCount + 1
 
 abbrev pub freeHead : ℕ
 freeHead = linkLength - 1

@@ -8,20 +8,22 @@ pub const SLOTS: usize = 512;
 
 pub const KEYS: usize = 4096;
 
-pub const KEYS16: u16 = 4096;
+pub const LAST_KEY: usize = KEYS - 1;
+
+pub const KEYS16: u16 = KEYS as u16;
 
 pub const VARIABLE: usize = 32768;
 
-pub const VARIABLE_END: usize = 32800;
+pub const VARIABLE_END: usize = VARIABLE + 32;
 
-pub const VARIABLE16: u16 = 32768;
+pub const VARIABLE16: u16 = VARIABLE as u16;
 
-pub const VARIABLE_END16: u16 = 32800;
+pub const VARIABLE_END16: u16 = VARIABLE_END as u16;
 
 pub const VALUE_ITEMS: usize = 2048;
 
 // The lengths of the lent tables, and where what they hold starts (docs/TABLES.md).
-pub const LENGTHS_START: usize = 258;
+pub const LENGTHS_START: usize = 2 + 256;
 
 pub const TERMS_START: usize = LENGTHS_START + SLOTS;
 
@@ -31,13 +33,17 @@ pub const USED: usize = 8;
 
 pub const LABEL: usize = KEYS;
 
-pub const SETS: usize = 2 * KEYS;
+pub const SET_KEYS: usize = KEYS / 4;
 
-pub const LINK: usize = 2 * KEYS - 2;
+pub const SETS: usize = 8 * SET_KEYS;
+
+pub const CHAINS: usize = KEYS - 3;
+
+pub const LINK: usize = KEYS + CHAINS + 1;
 
 pub const FREE: usize = LINK - 1;
 
-pub const ROOT: u32 = 32776;
+pub const ROOT: u32 = (8 * KEYS + 8) as u32;
 
 // The log program: its input, its answer buffer, the buffer of a line.
 pub const INPUT: usize = 65535;

@@ -15,7 +15,8 @@ ghost use mathlib.Core.Path.{_≡_};
 ghost use Prim.Native.Nat.{_+_, _-_, _*_, _%_, _≤_, _<_, max};
 ghost use lib.ListN.{length, getD};
 ghost use lib.Seq.{sets};
-ghost use Rattle.layout.specs.Layout.{setsLong, longEnough, largestOf, signatureOf, termOf, usedOf, isUsed, blank, signed, withTerm};
+ghost use Rattle.layout.specs.Layout.{setsLong, longEnough, largestOf, signatureOf, termOf, usedOf, isUsed};
+ghost use Rattle.layout.specs.Layout.{blank, signed, withTerm};
 ghost use Rattle.laws.specs.Sizes.{bytesLength, slotCount};
 
 // Are the tables as long as docs/TABLES.md says; refusal 1 otherwise.

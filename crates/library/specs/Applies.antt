@@ -3,7 +3,7 @@
 -- the first in rank that applies, and not where none does; no row says a word of the others, and their order here
 -- says nothing. The other rows: 1 is about the lent tables' lengths alone, 10 about arguments (Conditions of
 -- definitions), 16 is the log program's.
-use Prim.Native.Nat.{ℕ, _*_, _<_}
+use Prim.Native.Nat.{ℕ, _*_, _≤_, _<_}
 use mathlib.Core.Path.{_≡_}
 use mathlib.Core.Logic.{_⊎_, _↔_}
 use mathlib.Core.Option.{some}
@@ -47,7 +47,7 @@ StoredKey st K = (s : ℕ) × (t : List ℕ) × (st .held s ≡ some t) × HasKe
 
 -- 4, SLOT: 'slot above 511 or not in use'
 abbrev pub NoSlot : Store → ℕ → Type 0
-NoSlot st s = (511 < s) ⊎ (Used st s → ⊥)
+NoSlot st s = (slotCount ≤ s) ⊎ (Used st s → ⊥)
 
 -- 9, KEY: the bytes are no key
 abbrev pub NoKey : Store → List ℕ → Type 0

@@ -130,7 +130,7 @@ asking = 0 ∷ 2 ∷ 0 ∷ 1 ∷ eight 0 (128 ∷ 1 ∷ 0 ∷ 1 ∷ eight 1 (128
 -- it has 2,049
 abbrev pub Limit : Type 0
 Limit = All (wide 7) (grown []) asking (valued 34 valueLimit ∷ fits ∷ [])
-    × All (wide 8) (grown (0 ∷ 0 ∷ [])) asking (valued 34 2049 ∷ [])
+    × All (wide 8) (grown (0 ∷ 0 ∷ [])) asking (valued 34 (valueLimit + 1) ∷ [])
 
 -- the proof: each claim is decided, and what is decided holds
 abbrev both : Bool → Bool → Bool
@@ -254,4 +254,4 @@ cases-hold = table-holds signature refl cases refl
 -- and so does the size limit
 pub limit-holds : Limit
 unfolding checkAll shortFrom sigRefusal aritiesGood refusal span declared itemsGood bindings? solution solve by-free by-size step face face-var face-bound var-symbol var-var in? once-cases ℕ-discrete one at-bind at-swap at-follow decLe terms? codes numbers moved
-limit-holds = (all-hold (wide 7) refl (grown []) asking (valued 34 valueLimit ∷ fits ∷ []) refl, all-hold (wide 8) refl (grown (0 ∷ 0 ∷ [])) asking (valued 34 2049 ∷ []) refl)
+limit-holds = (all-hold (wide 7) refl (grown []) asking (valued 34 valueLimit ∷ fits ∷ []) refl, all-hold (wide 8) refl (grown (0 ∷ 0 ∷ [])) asking (valued 34 (valueLimit + 1) ∷ []) refl)

@@ -11,7 +11,7 @@ use lib.Dec.{ltb, eqb}
 use lib.ListN.{length, length-append}
 use borrow.Author.Tests.{ltb-true}
 use Rattle.laws.specs.Choice.{pick}
-use Rattle.laws.specs.Sizes.{slotCount}
+use Rattle.laws.specs.Sizes.{slotCount, valueLimit}
 use Rattle.terms.specs.Terms.{itemsGood, span, refusal}
 use Rattle.keys.specs.Bytes.{isKey}
 use Rattle.theory.specs.Flat.{Item}
@@ -30,11 +30,14 @@ use Rattle.library.specs.Readable.{long-short}
 
 -- two bytes for each of 512 slots
 abbrev pub listingMost : ℕ
-listingMost = 1024
+listingMost = 2 * slotCount
 
--- 64 fields, each of the tag, two bytes of length, the variable's two and 2,048 items of two
+-- a field: the tag, two bytes of length, the variable's two and 2,048 items of two; a record: 64 fields
+abbrev pub fieldMost : ℕ
+fieldMost = 5 + 2 * valueLimit
+
 abbrev pub recordMost : ℕ
-recordMost = 262464
+recordMost = 64 * fieldMost
 
 -- a record whose values have at most 2,048 items each
 pub length-field : (y : ℕ) (l : List Item) → length (fieldBytes (y := l)) ≡ 5 + 2 * length l
@@ -42,13 +45,13 @@ unfolding fieldBytes bytes
 length-field y l = omega (arith, length-bytes l)
 
 module _ (θ : ℕ → List Item) (h : Short θ) where
-  fields-most : (k y : ℕ) → y + k ≤ 64 → length (written (listedFrom θ k y)) ≤ 4101 * k
+  fields-most : (k y : ℕ) → y + k ≤ 64 → length (written (listedFrom θ k y)) ≤ fieldMost * k
   unfolding listedFrom written
   fields-most zero y b = omega arith
   fields-most (suc k) y b = go (items? (θ y) (vars y)) (fields-most k (y + 1) (omega arith))
     where
-      go : (d : Dec (θ y ≡ vars y)) → length (written (listedFrom θ k (y + 1))) ≤ 4101 * k
-          → length (written (unless d (y := θ y) (listedFrom θ k (y + 1)))) ≤ 4101 * suc k
+      go : (d : Dec (θ y ≡ vars y)) → length (written (listedFrom θ k (y + 1))) ≤ fieldMost * k
+          → length (written (unless d (y := θ y) (listedFrom θ k (y + 1)))) ≤ fieldMost * suc k
       go (yes e) ih = omega arith
       go (no n) ih = omega (arith, length-append (fieldBytes (y := θ y)) (written (listedFrom θ k (y + 1))), length-field y (θ y), h y (omega arith), ih)
 

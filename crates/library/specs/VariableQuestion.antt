@@ -11,7 +11,7 @@ use mathlib.Core.List.{List, [], _∷_, append-nil}
 use lib.ListN.{length, List·getD-eq-default}
 use borrow.Author.Tests.{lt-ltb, le-ltb, le-leb, eq-eqb}
 use Rattle.laws.specs.Members.{In}
-use Rattle.laws.specs.Sizes.{valueLimit}
+use Rattle.laws.specs.Sizes.{valueLimit, variableBase, variableEnd}
 use Rattle.terms.specs.Terms.{arity, numbers, span, declared, itemsGood, refusal}
 use Rattle.terms.proofs.TermLaws.{signed}
 use Rattle.theory.specs.Flat.{Item}
@@ -44,18 +44,18 @@ unfolding refusal itemsGood declared span
 question-checked sig b v l =
     let x = 128 * 256 + v in
     let m : length sig ≤ x = omega arith in
-    let n : 32768 ≤ x = omega arith in
-    let k : x < 32800 = omega arith in
+    let n : variableBase ≤ x = omega arith in
+    let k : x < variableEnd = omega arith in
     let z : arity sig x ≡ 0 = List·getD-eq-default sig 0 m in
-    rw (le-ltb x (length sig) m, le-leb 32768 x n, lt-ltb x 32800 k, z)
+    rw (le-ltb x (length sig) m, le-leb variableBase x n, lt-ltb x variableEnd k, z)
 
 pub question-items : (v : ℕ) → items (variableQuestion v) ≡ vars v
 unfolding codes numbers
 question-items v =
     let x = 128 * 256 + v in
-    let n : 32768 ≤ x = omega arith in
-    let e : x - 32768 ≡ v = omega arith in
-    rw (moved-none x, le-ltb x 32768 n, e)
+    let n : variableBase ≤ x = omega arith in
+    let e : x - variableBase ≡ v = omega arith in
+    rw (moved-none x, le-ltb x variableBase n, e)
 
 -- a substitution that changes one variable lists that variable
 module _ (θ : ℕ → List Item) (z : ℕ) (n : θ z ≢ vars z) (other : (x : ℕ) → x ≢ z → θ x ≡ vars x) where
@@ -144,8 +144,8 @@ module _ (sig t : List ℕ) (ft : Fine sig t) (v : ℕ) where
   value-bytes l o =
       let a : suc (suc (length t)) / 256 ≡ 0 = omega (arith, ft .short) in
       let b : suc (suc (length t)) % 256 ≡ 2 + length t = omega (arith, ft .short) in
-      let c : (32768 + (32 + v)) / 256 ≡ 128 = omega arith in
-      let d : (32768 + (32 + v)) % 256 ≡ 32 + v = omega arith in
+      let c : (variableBase + (32 + v)) / 256 ≡ 128 = omega arith in
+      let d : (variableBase + (32 + v)) % 256 ≡ 32 + v = omega arith in
       rw (value-listed l, bytes-items t o (ft .even), c, d, append-nil t, a, b)
 
   value-count : v < 32 → countOf value ≡ 1

@@ -8,7 +8,8 @@ use laws::wide;
 ghost use Prim.Native.Nat.{_≤_};
 ghost use mathlib.Core.List.{_++_};
 ghost use lib.ListN.{length};
-ghost use Rattle.log.specs.Lines.{Put, ok, figure, feed, recordText, plainLine, refusedLine, slotLine, foundLine, solvedLine};
+ghost use Rattle.log.specs.Lines.{Put, ok, figure, feed, recordText};
+ghost use Rattle.log.specs.Lines.{plainLine, refusedLine, slotLine, foundLine, solvedLine};
 
 // `open ok`
 pub fn plain_line(line: &mut [u8], word: &[u8]) -> usize

@@ -56,8 +56,12 @@ use Rattle.library.specs.Formulas.{formula, trees}
 use Rattle.library.specs.Sound.{Sound}
 use Rattle.library.specs.Applies.{Applies, AppliesNumber}
 use Rattle.library.specs.AppliesFirst.{refused-is, refused-first, refused-exactly}
-use Rattle.library.specs.Readable.{Ascending, ascending-nodup, use-held, free-smallest, free-unused, keyed-are, keyed-ascend, answers-are, answers-ascend, candidates-are, candidates-ascend, solve-none, solve-long, solve-writes, solve-solved}
-use Rattle.library.specs.Store.{Store, Call, roomOf, answered, empty, after, firstFree, keyed, openWith, insert, delete, withKey, retrieve, solve, answers, candidates as candidatesIn}
+use Rattle.library.specs.Readable.{Ascending, ascending-nodup, use-held, free-smallest, free-unused}
+use Rattle.library.specs.Readable.{keyed-are, keyed-ascend, answers-are, answers-ascend}
+use Rattle.library.specs.Readable.{candidates-are, candidates-ascend}
+use Rattle.library.specs.Readable.{solve-none, solve-long, solve-writes, solve-solved}
+use Rattle.library.specs.Store.{Store, Call, openWith, insert, delete, withKey, retrieve, solve}
+use Rattle.library.specs.Store.{roomOf, answered, empty, after, firstFree, keyed, answers, candidates as candidatesIn}
 use Rattle.calls.specs.declared.Reply.{Reply}
 use Rattle.calls.specs.Outcome.{Outcome, outcome, told}
 use Rattle.retrieve.specs.Retrieving.{candidatesOf}
@@ -66,7 +70,9 @@ use Rattle.meaning.specs.Confirmed.{candidates-are as walked-are}
 use Rattle.meaning.specs.CallsMean.{call-means}
 use Rattle.meaning.specs.Carried.{Asks, asks-quiet, quiet, short-exactly, outcome-replied}
 use Rattle.meaning.specs.Opening.{open-number, open-run}
-use Rattle.meaning.specs.Told.{front-bytes, front-read, retrieve-found, solve-found, key-found, insert-found, delete-found, unused-none, put-same, put-other, put-signature, field-value, field-none, absorbs-all}
+use Rattle.meaning.specs.Told.{front-bytes, front-read, unused-none, put-same, put-other, put-signature}
+use Rattle.meaning.specs.Told.{retrieve-found, solve-found, key-found, insert-found, delete-found}
+use Rattle.meaning.specs.Told.{field-value, field-none, absorbs-all}
 use Rattle.meaning.specs.Runs.{carried, Called, Tells, toldNumber, Run, opened, called}
 
 -- the numbers and the bytes of an answer
@@ -93,7 +99,8 @@ stands-after S S′ st e h = rw e h
 pub run-stands : (T : Tables) (st : Store) → Run T st → Stand T st
 run-stands T st (opened X sig out₀ o c z) = open-run X sig out₀ o c z
 run-stands T st (called X st₀ c out₀ o k d) =
-    stands-after (o .after) (carried X c .after) (after st₀ c) (ap (λ (x : Outcome). x .after) (d .is)) (call-means X st₀ c (run-stands X st₀ k) .stand)
+    stands-after (o .after) (carried X c .after) (after st₀ c) (ap (λ (x : Outcome). x .after) (d .is))
+    (call-means X st₀ c (run-stands X st₀ k) .stand)
 
 pub run-sound : (T : Tables) (st : Store) → Run T st → Sound st
 run-sound T st k = stand-sound T st (run-stands T st k)
@@ -172,7 +179,8 @@ pub demand-1-exactly : (T : Tables) (st : Store) (c : Call) (out₀ : List ℕ) 
     → (o .refused ≡ numberOf why) ↔
     (Applies st c why × ((w : Refusal) → Applies st c w → rank (numberOf why) ≤ rank (numberOf w)))
 demand-1-exactly T st c out₀ o why k d =
-    Iff·trans (demand-1-number T st c out₀ o (numberOf why) k d (number-some why)) (refused-exactly st (run-sound T st k) c why)
+    Iff·trans (demand-1-number T st c out₀ o (numberOf why) k d (number-some why))
+    (refused-exactly st (run-sound T st k) c why)
 
 -- INSERT AND DELETE, where not refused. st is the store before and next the one afterwards, with which the run goes on
 pub record Insertion (st next : Store) (t : List ℕ) (o : Outcome) : Type 0 where
@@ -197,7 +205,8 @@ demand-1-insert T st t out₀ o k d z =
       free = rw e (unused-none st (firstFree st) (w .below) (free-unused st (w .below)));
       smallest = λ s l. use-held st (run-sound T st k) s .0 (free-smallest st s (omega (arith, e, l)));
       holds = rw (e, w .next) (put-same st (firstFree st) (some t));
-      others = λ s n. ap (λ (x : Store). x .held s) (w .next) ∙ put-other st (firstFree st) (some t) s (λ f. n (f ∙ sym e));
+      others = λ s n. ap (λ (x : Store). x .held s) (w .next)
+          ∙ put-other st (firstFree st) (some t) s (λ f. n (f ∙ sym e));
       signature = ap (λ (x : Store). x .signature) (w .next) ∙ put-signature st (firstFree st) (some t);
       run = called T st (insert t) out₀ o k d;
     }
@@ -252,7 +261,8 @@ demand-1-key T st room k out₀ o r d z =
       ascending = keyed-ascend st g k;
       exactly = keyed-are st g k;
       number = m .first ∙ ap firstIn (w .is);
-      bytes = m .bytes ∙ ap (λ (a : Answer). sets out₀ 0 (written a)) (w .is) ∙ front-bytes (listed (keyed st k)) out₀ (let l = w .fits in omega (arith, l, d .room));
+      bytes = m .bytes ∙ ap (λ (a : Answer). sets out₀ 0 (written a)) (w .is)
+          ∙ front-bytes (listed (keyed st k)) out₀ (let l = w .fits in omega (arith, l, d .room));
       run = rw (demand-1-asks T (withKey k room) out₀ o d tt) r;
     }
 
@@ -286,7 +296,8 @@ demand-2 T st relation room q out₀ o k d z =
       ascending = answers-ascend st g relation q;
       exactly = answers-are st g relation q (w .checked);
       number = m .second ∙ ap secondIn (w .is);
-      bytes = m .bytes ∙ ap (λ (a : Answer). sets out₀ 0 (written a)) (w .is) ∙ front-bytes (listed (answers st relation q)) out₀ (let l = w .fits in omega (arith, l, d .room));
+      bytes = m .bytes ∙ ap (λ (a : Answer). sets out₀ 0 (written a)) (w .is)
+          ∙ front-bytes (listed (answers st relation q)) out₀ (let l = w .fits in omega (arith, l, d .room));
       candidates = candidatesIn st relation q;
       distinct = ascending-nodup (candidatesIn st relation q) (candidates-ascend st g relation q);
       formulas = candidates-are st g relation q (w .checked);
@@ -352,10 +363,11 @@ most-general sig t q w h =
     }
 
 -- solve, for a slot that holds t and a question that is a term
-module _ (T : Tables) (st : Store) (s room : ℕ) (t q out₀ : List ℕ) (o : Outcome) (k : Run T st) (e : st .held s ≡ some t)
-    (c : refusal (st .signature) q ≡ 0) (d : Called T out₀ (solve s q room) o) where
+module _ (T : Tables) (st : Store) (s room : ℕ) (t q out₀ : List ℕ) (o : Outcome) (k : Run T st)
+    (e : st .held s ≡ some t) (c : refusal (st .signature) q ≡ 0) (d : Called T out₀ (solve s q room) o) where
   pub demand-3-none : (o .refused ≡ 13) ↔ (Unifiable (st .signature) t q → ⊥)
-  demand-3-none = Iff·trans (demand-1-number T st (solve s q room) out₀ o 13 k d (λ z. omega arith)) (solve-none st (run-sound T st k) s t e q c room)
+  demand-3-none = Iff·trans (demand-1-number T st (solve s q room) out₀ o 13 k d (λ z. omega arith))
+      (solve-none st (run-sound T st k) s t e q c room)
 
   pub demand-3 : o .refused ≡ 0 → Solution (st .signature) t q out₀ o
   demand-3 z =
@@ -364,7 +376,8 @@ module _ (T : Tables) (st : Store) (s room : ℕ) (t q out₀ : List ℕ) (o : O
       let v = solve-solved st (run-sound T st k) s t e q c room (w .fields) (w .bytes) (w .is) in
       record {
         record-bytes = w .bytes;
-        bytes = m .bytes ∙ ap (λ (a : Answer). sets out₀ 0 (written a)) (w .is) ∙ front-bytes (w .bytes) out₀ (let l = v .fits in omega (arith, l, d .room));
+        bytes = m .bytes ∙ ap (λ (a : Answer). sets out₀ 0 (written a)) (w .is)
+            ∙ front-bytes (w .bytes) out₀ (let l = v .fits in omega (arith, l, d .room));
         length-told = m .second ∙ ap secondIn (w .is);
         is = v .is;
         reads = v .reads;
@@ -376,7 +389,8 @@ module _ (T : Tables) (st : Store) (s room : ℕ) (t q out₀ : List ℕ) (o : O
   record-read : o .refused ≡ 0 → Reads (st .signature) t q (readFields (recordIn o))
   record-read z =
       let v = demand-3 z in
-      rw (front-read (v .record-bytes) (drop (length (v .record-bytes)) out₀) (o .out) (o .second) (v .length-told) (v .bytes)) (v .reads)
+      rw (front-read (v .record-bytes) (drop (length (v .record-bytes)) out₀) (o .out) (o .second)
+      (v .length-told) (v .bytes)) (v .reads)
 
   pub demand-3-read : o .refused ≡ 0 → MostGeneral (st .signature) t q (substitution (recordIn o))
   demand-3-read z = most-general (st .signature) t q (recordIn o) (record-read z)
@@ -393,13 +407,15 @@ module _ (T : Tables) (st : Store) (s room : ℕ) (t q out₀ : List ℕ) (o : O
   -- items
   pub demand-3-long : (o .refused ≡ 14) ↔
       ((θ : ℕ → List Item) × Unifier (st .signature) (items t) (shift 32 (items q)) θ × (Short θ → ⊥))
-  demand-3-long = Iff·trans (demand-1-number T st (solve s q room) out₀ o 14 k d (λ z. omega arith)) (solve-long st (run-sound T st k) s t e q c room)
+  demand-3-long = Iff·trans (demand-1-number T st (solve s q room) out₀ o 14 k d (λ z. omega arith))
+      (solve-long st (run-sound T st k) s t e q c room)
 
   -- a record that is short and fits is written
   pub demand-3-written : (w : List ℕ) (i : IsRecord (st .signature) t q w) → Short (i .by) → length w ≤ length out₀
       → o .refused ≡ 0
   demand-3-written w i h l =
-      demand-1 T st (solve s q room) out₀ o k d .number ∙ ap refusalIn (solve-writes st (run-sound T st k) s t e q c room w i h (omega (arith, l, d .room)))
+      demand-1 T st (solve s q room) out₀ o k d .number
+      ∙ ap refusalIn (solve-writes st (run-sound T st k) s t e q c room w i h (omega (arith, l, d .room)))
 
 -- FROM C AND RUST. What `Tells` says of an exported function is a call: o has the number that is answered and the
 -- tables and the buffer after, and its two numbers are those that the function tells. So every demand above is a

@@ -16,7 +16,7 @@ use Rattle.keys.specs.Keys.{Place, root, step, Key, key}
 use Rattle.paths.specs.Rep.{lab, lab-inj, At, top, kid, Den, Rep, find-den, find-none}
 use Rattle.paths.specs.TreeWalk.{kidOf, upPlace, upNum, keyList}
 use Rattle.paths.specs.Insert.{DenK, Dens, Lack, done, has, new, Back, EndLabels, back-one}
-use Rattle.laws.specs.Sizes.{keyLimit, rootPlace, variableBase}
+use Rattle.laws.specs.Sizes.{keyLimit, rootPlace}
 
 unfoldable pub numList : List ℕ → List ℕ → List ℕ → List ℕ → List ℕ → List ℕ
 numList link label ks [] es = []
@@ -64,7 +64,7 @@ pub find-le : (link label : List ℕ) (w : ℕ) → find link label w ≤ keyLim
 unfolding find
 find-le link label w = found-le link label w keyLimit _
 
-at-low : (label : List ℕ) (n : ℕ) (P : Place) → At label n P → (n ≡ rootPlace) ⊎ (n < variableBase)
+at-low : (label : List ℕ) (n : ℕ) (P : Place) → At label n P → (n ≡ rootPlace) ⊎ (n < keyLimit * 8)
 at-low label n P top = inl refl
 at-low label n P (kid a l h f i m) = inr (omega arith)
 

@@ -13,12 +13,12 @@ use Rattle.keys.specs.Keys.{Tm}
 use Rattle.paths.specs.Rep.{Den, Rep, Full, Unique}
 use Rattle.paths.specs.Insert.{St, Good}
 use Rattle.paths.specs.StoredTrees.{Stored}
-use Rattle.laws.specs.Sizes.{freeHead, keyLimit, linkLength}
+use Rattle.laws.specs.Sizes.{freeHead, keyLimit, lastKey, linkLength}
 
 -- all keys on the chain of the free ones, in order
 pub record Fresh (link label : List ℕ) : Type 0 where
-  pub next : (k : ℕ) → k < 4095 → getD link k 0 ≡ suc (suc k)
-  pub last : getD link 4095 0 ≡ 0
+  pub next : (k : ℕ) → k < lastKey → getD link k 0 ≡ suc (suc k)
+  pub last : getD link lastKey 0 ≡ 0
   pub heads : (b : ℕ) → keyLimit ≤ b → b < freeHead → getD link b 0 ≡ 0
   pub first : getD link freeHead 0 ≡ 1
   pub labels : (k : ℕ) → k < keyLimit → getD label k 0 ≡ 0
@@ -49,7 +49,7 @@ seq-nodup k (suc n) = ((λ h. let r = seq-in (suc k) n k h in omega (arith, r .0
 
 seq-linked : (link label : List ℕ) → Fresh link label → (n k : ℕ) → k + suc n ≡ keyLimit → Linked link (suc k) (seq k (suc n))
 unfolding seq
-seq-linked link label f zero k e = let z : k ≡ 4095 = omega arith in one {k = k} {xs = []} (rw (z, f .last) end)
+seq-linked link label f zero k e = let z : k ≡ lastKey = omega arith in one {k = k} {xs = []} (rw (z, f .last) end)
 seq-linked link label f (suc n) k e = one {k = k} {xs = seq (suc k) (suc n)} (rw (f .next k (omega arith)) (seq-linked link label f n (suc k) (omega arith)))
 
 pub open-chains : (link label : List ℕ) → Fresh link label → Chains link label keyLimit
@@ -62,7 +62,7 @@ open-chains link label f b lo hi = go (ℕ-discrete b freeHead)
     go : Dec (b ≡ freeHead) → Chain link label keyLimit b
     go (yes e) = record {
       keys = seq 0 keyLimit;
-      linked = rw (e, f .first) (seq-linked link label f 4095 0 (omega arith));
+      linked = rw (e, f .first) (seq-linked link label f lastKey 0 (omega arith));
       nodup = seq-nodup 0 keyLimit;
       from = λ k i. let r = seq-in 0 keyLimit k i in (omega (arith, r .1), at k (omega (arith, r .1)) ∙ sym e, (λ z. omega (arith, r .1)));
       into = λ k l h z. in-seq 0 keyLimit k (omega arith) (omega arith);

@@ -19,7 +19,7 @@ use Rattle.unify.specs.Masks.{Named}
 use Rattle.theory.specs.Nodes.{args}
 use Rattle.unify.specs.Run.{Given, Tab, term, node-named}
 use Rattle.theory.specs.ItemWalk.{extra, args-turn}
-use Rattle.laws.specs.Sizes.{variableBase}
+use Rattle.laws.specs.Sizes.{valueLimit, variableBase}
 use Rattle.terms.specs.Terms.{arity}
 
 module _ (sig pool tab : List ℕ) where
@@ -118,30 +118,34 @@ size-item sz c l = go (decLe variableBase c)
     go (yes v) = rw (le-ltb c variableBase v, weigh-var sz c v)
     go (no v) = let h : c < variableBase = omega arith in rw (lt-ltb c variableBase h, weigh-sym sz c h) (omega arith)
 
--- the count so far, no further than 2049
+-- one more than a value may have: sizes are counted no further
+abbrev pub sizeCut : ℕ
+sizeCut = valueLimit + 1
+
+-- the count so far, no further than that
 module _ (sig pool sz : List ℕ) where
   abbrev pub Counted : ℕ → ℕ → ℕ → ℕ → Type 0
-  Counted p o i m = (m ≤ 2049)
+  Counted p o i m = (m ≤ sizeCut)
       ×
-      (min (m + size (table sz) (args (arity sig) (items16 pool) o i)) 2049 ≡ min
-      (size (table sz) (term sig pool p)) 2049)
+      (min (m + size (table sz) (args (arity sig) (items16 pool) o i)) sizeCut ≡ min
+      (size (table sz) (term sig pool p)) sizeCut)
 
-  pub counted-turn : (p o i m : ℕ) → o ≢ 0 → i < length pool → Counted p o i m → Counted p (o - 1 + extra sig (getD pool i 0)) (i + 1) (min (m + weigh sz (getD pool i 0)) 2049)
+  pub counted-turn : (p o i m : ℕ) → o ≢ 0 → i < length pool → Counted p o i m → Counted p (o - 1 + extra sig (getD pool i 0)) (i + 1) (min (m + weigh sz (getD pool i 0)) sizeCut)
   counted-turn p o i m n b h =
       let e = ap (size (table sz)) (args-turn sig pool o i n b) ∙ size-item sz (getD pool i 0) (args (arity sig) (items16 pool) (o - 1 + extra sig (getD pool i 0)) (i + 1)) in
       (omega arith, omega (arith, h .1, e))
 
-  pub counted-end : (p o i m : ℕ) → args (arity sig) (items16 pool) o i ≡ [] → Counted p o i m → m ≡ min (size (table sz) (term sig pool p)) 2049
+  pub counted-end : (p o i m : ℕ) → args (arity sig) (items16 pool) o i ≡ [] → Counted p o i m → m ≡ min (size (table sz) (term sig pool p)) sizeCut
   counted-end p o i m e h = omega (arith, h .0, h .1, ap (size (table sz)) e)
 
--- the sizes of the values, cut at 2049
+-- the sizes of the values, cut there
 abbrev pub Sizes : List ℕ → List ℕ → List ℕ → ℕ → List ℕ → Type 0
-Sizes sig pool tab d sz = (y : ℕ) → y < 64 → getD sz y 0 ≡ min (length (value sig pool tab d y)) 2049
+Sizes sig pool tab d sz = (y : ℕ) → y < 64 → getD sz y 0 ≡ min (length (value sig pool tab d y)) sizeCut
 
 -- one entry of the next round
 unfoldable pub entrySize : List ℕ → List ℕ → List ℕ → ℕ → ℕ
 entrySize sig pool sz zero = 1
-entrySize sig pool sz (suc p) = min (size (table sz) (term sig pool p)) 2049
+entrySize sig pool sz (suc p) = min (size (table sz) (term sig pool p)) sizeCut
 
 pub sizes-step : (sig pool tab : List ℕ) → Given sig pool → (d : ℕ) (sz sz′ : List ℕ) → Sizes sig pool tab d sz
     → ((y : ℕ) → y < 64 → getD sz′ y 0 ≡ entrySize sig pool sz (getD tab y 0)) → Sizes sig pool tab (d + 1) sz′
@@ -151,10 +155,10 @@ sizes-step sig pool tab G d sz sz′ s h y b = h y b ∙ go (getD tab y 0) refl
     one : d + 1 ≡ suc d
     one = omega arith
 
-    go : (e : ℕ) → getD tab y 0 ≡ e → entrySize sig pool sz e ≡ min (length (value sig pool tab (d + 1) y)) 2049
+    go : (e : ℕ) → getD tab y 0 ≡ e → entrySize sig pool sz e ≡ min (length (value sig pool tab (d + 1) y)) sizeCut
     go zero e = rw (value-free sig pool tab (d + 1) y e)
-    go (suc p) e = size-cut 2049 (table sz) (λ x. length (value sig pool tab d x)) (term sig pool p) (node-named sig pool G p) s
-        ∙ ap (λ (n : ℕ). min n 2049) (sym (size-app (value sig pool tab d) (term sig pool p)) ∙ ap length (sym (value-bound sig pool tab d y p e) ∙ ap (λ (k : ℕ). value sig pool tab k y) (sym one)))
+    go (suc p) e = size-cut sizeCut (table sz) (λ x. length (value sig pool tab d x)) (term sig pool p) (node-named sig pool G p) s
+        ∙ ap (λ (n : ℕ). min n sizeCut) (sym (size-app (value sig pool tab d) (term sig pool p)) ∙ ap length (sym (value-bound sig pool tab d y p e) ∙ ap (λ (k : ℕ). value sig pool tab k y) (sym one)))
 
 -- a round that changes nothing is the last
 pub sizes-stay : (sig pool tab : List ℕ) → Given sig pool → (d : ℕ) (sz : List ℕ) → Sizes sig pool tab d sz
@@ -173,10 +177,10 @@ pub entry-none : (sig pool sz : List ℕ) (e : ℕ) → e ≡ 0 → 1 ≡ entryS
 unfolding entrySize
 entry-none sig pool sz e z = rw z
 
-pub entry-some : (sig pool sz : List ℕ) (e n : ℕ) → e ≢ 0 → n ≡ min (size (table sz) (term sig pool (e - 1))) 2049 → n ≡ entrySize sig pool sz e
+pub entry-some : (sig pool sz : List ℕ) (e n : ℕ) → e ≢ 0 → n ≡ min (size (table sz) (term sig pool (e - 1))) sizeCut → n ≡ entrySize sig pool sz e
 unfolding entrySize
 entry-some sig pool sz zero n z h = absurd (z refl)
-entry-some sig pool sz (suc e) n z h = let k : suc e - 1 ≡ e = omega arith in h ∙ ap (λ (j : ℕ). min (size (table sz) (term sig pool j)) 2049) k
+entry-some sig pool sz (suc e) n z h = let k : suc e - 1 ≡ e = omega arith in h ∙ ap (λ (j : ℕ). min (size (table sz) (term sig pool j)) sizeCut) k
 
 pub sizes-start : (sig pool tab sz : List ℕ) → ((y : ℕ) → y < 64 → getD sz y 0 ≡ 1) → Sizes sig pool tab 0 sz
-sizes-start sig pool tab sz h y b = h y b ∙ ap (λ (l : List Item). min (length l) 2049) (sym (value-zero sig pool tab y))
+sizes-start sig pool tab sz h y b = h y b ∙ ap (λ (l : List Item). min (length l) sizeCut) (sym (value-zero sig pool tab y))

@@ -10,18 +10,21 @@ ghost use mathlib.Core.Path.{_≡_};
 ghost use Prim.Native.Nat.{ℕ, _≤_, _<_, min};
 ghost use lib.ListN.{length, getD};
 ghost use Rattle.unify.specs.Run.{Given, Shape, term};
-ghost use Rattle.solution.specs.Values.{weigh, size, table, entrySize, Sizes};
+ghost use Rattle.solution.specs.Values.{weigh, size, sizeCut, table, entrySize, Sizes};
 ghost use Rattle.solution.specs.Totals.{bytesIf, totalFrom, present as presence, countFrom};
-ghost use Rattle.laws.specs.Sizes.{valueLimit};
+ghost use Rattle.laws.specs.Sizes.{valueLimit, writtenEnd};
+
+// No size is counted further.
+const CUT: usize = VALUE_ITEMS + 1;
 
 fn cut(x: usize) -> usize
-    ensures { λ r. ⌜ r ≡ min x 2049 ⌝ }
+    ensures { λ r. ⌜ r ≡ min x sizeCut ⌝ }
 {
-    if x < 2049 { x } else { 2049 }
+    if x < CUT { x } else { CUT }
 }
 
 fn weight(sz: &[u16; 64], c: usize) -> usize
-    requires { ⌜ c < 32832 ⌝ }
+    requires { ⌜ c < writtenEnd ⌝ }
     ensures { λ r. ⌜ (r ≡ weigh (now (sz .entry)) c) × (r < 65536) ⌝ }
 {
     if c < VARIABLE {
@@ -34,7 +37,8 @@ fn weight(sz: &[u16; 64], c: usize) -> usize
 // The items of the term at p, each variable for the items of its value, counted up to 2049.
 fn size_of(sig: &[u8], pool: &[u16], sz: &[u16; 64], p: usize) -> usize
     requires { ⌜ Given (now sig) (now pool) × (p < length (now pool)) ⌝ }
-    ensures { λ r. ⌜ r ≡ min (size (table (now (sz .entry))) (term (now (sig .entry)) (now (pool .entry)) p)) 2049 ⌝ }
+    ensures { λ r. ⌜ r
+        ≡ min (size (table (now (sz .entry))) (term (now (sig .entry)) (now (pool .entry)) p)) sizeCut ⌝ }
 {
     let mut opened: usize = 1;
     let mut i = p;

@@ -13,11 +13,11 @@ ghost use Rattle.solution.specs.Values.{value};
 ghost use Rattle.solution.specs.Filling.{Filled};
 ghost use Rattle.solution.specs.ValueBytes.{itemBytes, termBytes, Goes};
 ghost use Rattle.solution.specs.RecordFields.{part, recordBytes};
-ghost use Rattle.laws.specs.Sizes.{valueLimit};
+ghost use Rattle.laws.specs.Sizes.{valueLimit, writtenEnd};
 
 // Where the item c leads: one more than the node, or 0 for a symbol, a variable with no binding, or no levels left.
 fn bound_to(tab: &[u8; 64], c: usize, levels: usize) -> usize
-    requires { ⌜ c < 32832 ⌝ }
+    requires { ⌜ c < writtenEnd ⌝ }
     ensures { λ r. ⌜ Goes (now (tab .entry)) c levels r ⌝ }
 {
     if c < VARIABLE {
@@ -38,7 +38,7 @@ fn put_item(
     c: usize,
     levels: usize,
 ) -> usize
-    requires { ⌜ Given (now sig) (now pool) × Shape (now tab) (now pool) × (c < 32832)
+    requires { ⌜ Given (now sig) (now pool) × Shape (now tab) (now pool) × (c < writtenEnd)
         × (length (itemBytes (now sig) (now pool) (now tab) levels c) ≤ length (now out)) ⌝ }
     ensures { λ r. ⌜ Filled (itemBytes (now (sig .entry)) (now (pool .entry)) (now (tab .entry)) levels c)
         (now (out .entry)) (now (out .exit)) r ⌝ }

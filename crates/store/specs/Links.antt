@@ -8,7 +8,7 @@ use lib.ListN.{length, getD, drop, replicate, length-append, length-replicate, l
 use lib.Seq.{ext-getD, getD-append-add, getD-drop}
 use Rattle.chains.specs.FreeChain.{Freed}
 use Rattle.store.specs.Tables.{countFrom, freed}
-use Rattle.laws.specs.Sizes.{freeHead, linkLength}
+use Rattle.laws.specs.Sizes.{chainCount, freeHead, lastKey, linkLength}
 
 length-count : (k n : ℕ) → length (countFrom k n) ≡ n
 unfolding countFrom
@@ -76,22 +76,22 @@ module _ (a b : ℕ) (l : List ℕ) where
 
 pub freed-is : (l m : List ℕ) → linkLength ≤ length l → Freed l m → m ≡ freed l
 unfolding freed
-freed-is l m h f = ext-getD 0 m (whole 4095 4094 l) (f .same ∙ sym (length-whole 4095 4094 l h))
-    (λ i g. spot 4095 4094 l i (getD m i 0) (λ p. let z = f .next i p in omega (arith, z)) (λ p q. f .ended i p q) (λ p. ap (λ (j : ℕ). getD m j 0) p ∙ f .first) (λ p. f .rest i p))
+freed-is l m h f = ext-getD 0 m (whole lastKey (chainCount + 1) l) (f .same ∙ sym (length-whole lastKey (chainCount + 1) l h))
+    (λ i g. spot lastKey (chainCount + 1) l i (getD m i 0) (λ p. let z = f .next i p in omega (arith, z)) (λ p q. f .ended i p q) (λ p. ap (λ (j : ℕ). getD m j 0) p ∙ f .first) (λ p. f .rest i p))
 
 pub freed-length : (l : List ℕ) → linkLength ≤ length l → length (freed l) ≡ length l
 unfolding freed
-freed-length l h = length-whole 4095 4094 l h
+freed-length l h = length-whole lastKey (chainCount + 1) l h
 
 -- every key leads to the next, and no other chain has a key
-pub freed-next : (l : List ℕ) (k : ℕ) → k < 4095 → getD (freed l) k 0 ≡ suc (suc k)
+pub freed-next : (l : List ℕ) (k : ℕ) → k < lastKey → getD (freed l) k 0 ≡ suc (suc k)
 unfolding freed
-freed-next l k h = sym (spot 4095 4094 l k (suc (suc k)) (λ p. omega arith) (λ p q. absurd (omega arith)) (λ p. absurd (omega arith)) (λ p. absurd (omega arith)))
+freed-next l k h = sym (spot lastKey (chainCount + 1) l k (suc (suc k)) (λ p. omega arith) (λ p q. absurd (omega arith)) (λ p. absurd (omega arith)) (λ p. absurd (omega arith)))
 
-pub freed-none : (l : List ℕ) (k : ℕ) → 4095 ≤ k → k < freeHead → getD (freed l) k 0 ≡ 0
+pub freed-none : (l : List ℕ) (k : ℕ) → lastKey ≤ k → k < freeHead → getD (freed l) k 0 ≡ 0
 unfolding freed
-freed-none l k h g = sym (spot 4095 4094 l k 0 (λ p. absurd (omega arith)) (λ p q. refl) (λ p. absurd (omega arith)) (λ p. absurd (omega arith)))
+freed-none l k h g = sym (spot lastKey (chainCount + 1) l k 0 (λ p. absurd (omega arith)) (λ p q. refl) (λ p. absurd (omega arith)) (λ p. absurd (omega arith)))
 
 pub freed-first : (l : List ℕ) → getD (freed l) freeHead 0 ≡ 1
 unfolding freed
-freed-first l = sym (spot 4095 4094 l freeHead 1 (λ p. absurd (omega arith)) (λ p q. absurd (omega arith)) (λ p. refl) (λ p. absurd (omega arith)))
+freed-first l = sym (spot lastKey (chainCount + 1) l freeHead 1 (λ p. absurd (omega arith)) (λ p q. absurd (omega arith)) (λ p. refl) (λ p. absurd (omega arith)))

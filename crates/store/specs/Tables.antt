@@ -19,7 +19,7 @@ use Rattle.paths.specs.Locate.{missing}
 use Rattle.termkeys.specs.Fill.{tables, fill, insFill, delFill}
 use Rattle.layout.specs.Tables.{Tables, held}
 use Rattle.layout.specs.Layout.{signatureOf, termOf, usedOf, blank, signed, withTerm}
-use Rattle.laws.specs.Sizes.{freeHead, keyLimit, linkLength, rootPlace, setLength, slotCount}
+use Rattle.laws.specs.Sizes.{chainCount, freeHead, keyLimit, lastKey, linkLength, rootPlace, setLength, slotCount}
 use Rattle.terms.specs.Terms.{arity}
 
 -- the key table and the sets among them
@@ -77,7 +77,7 @@ countFrom k zero = []
 countFrom k (suc n) = k ∷ countFrom (suc k) n
 
 unfoldable pub freed : List ℕ → List ℕ
-freed l = countFrom 2 4095 ++ (replicate 4094 0 ++ (1 ∷ drop linkLength l))
+freed l = countFrom 2 lastKey ++ (replicate (chainCount + 1) 0 ++ (1 ∷ drop linkLength l))
 
 unfoldable pub openedWith : Tables → List ℕ → Tables
 openedWith T sig =

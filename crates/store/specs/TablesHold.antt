@@ -28,7 +28,7 @@ use Rattle.store.specs.Tables.{indexOf, freed, openedWith}
 use Rattle.store.specs.Links.{freed-length, freed-next, freed-none, freed-first}
 use Rattle.slots.specs.Sets.{Words}
 use Rattle.store.specs.Kept.{signed-signature, has-used, blank-low, long-is}
-use Rattle.laws.specs.Sizes.{bytesLength, keyLimit, setLength, slotCount}
+use Rattle.laws.specs.Sizes.{bytesLength, keyLimit, lastKey, setKeys, setLength, slotCount}
 
 -- a store: what each slot holds, as bytes
 abbrev pub Slots : Type 0
@@ -121,7 +121,7 @@ module _ (c d e f : List ℕ) (l0 : setLength ≤ length c) (l1 : setLength ≤ 
 
   word-zero : (k i : ℕ) → i < 8 → word clear k i ≡ 0
   unfolding word
-  word-zero k i h = tab-zero (k / 1024) (k % 1024 * 8 + i) (omega arith)
+  word-zero k i h = tab-zero (k / setKeys) (k % setKeys * 8 + i) (omega arith)
 
   clear-ok : Ok clear
   clear-ok = record { long = λ q h. tab-long q; fits = λ k i h g. rw (word-zero k i g) (omega arith) }
@@ -133,7 +133,7 @@ module _ (c d e f : List ℕ) (l0 : setLength ≤ length c) (l1 : setLength ≤ 
 fresh : (link label : List ℕ) → Fresh (freed link) (blank keyLimit label)
 fresh link label = record {
   next = λ k h. freed-next link k h;
-  last = freed-none link 4095 (omega arith) (omega arith);
+  last = freed-none link lastKey (omega arith) (omega arith);
   heads = λ b h g. freed-none link b (omega arith) g;
   first = freed-first link;
   labels = λ k h. blank-low keyLimit label k h;

@@ -9,7 +9,8 @@ ghost use lib.Dec.{eqb};
 ghost use lib.ListN.{length, take, drop};
 ghost use Rattle.laws.specs.Choice.{pick};
 ghost use Rattle.terms.specs.Refusals.{numberOf, checkedNumber};
-ghost use Rattle.terms.specs.Terms.{arity as arityOf, span, declared as isDeclared, itemsGood, aritiesGood, sigRefusal, refusal};
+ghost use Rattle.terms.specs.Terms.{arity as arityOf, span, declared as isDeclared, itemsGood, aritiesGood};
+ghost use Rattle.terms.specs.Terms.{sigRefusal, refusal};
 
 // Why a call is refused, in the order of SCOPE.md's numbers.
 pub enum Refusal {

@@ -19,7 +19,7 @@ use Rattle.theory.specs.Cut.{first, first-append}
 use Rattle.theory.specs.Items.{item16, items16, codes, length-codes, getD-codes, moved, moved-sym, moved-var, moved-le, items, shift, shift-codes, shift-terms, Fine}
 use Rattle.unify.specs.Run.{Given, Shape, Tab, Ended, term}
 use Rattle.terms.specs.Terms.{arity, itemAt, numbers}
-use Rattle.laws.specs.Sizes.{variableBase, variableEnd}
+use Rattle.laws.specs.Sizes.{variableBase, variableEnd, writtenEnd}
 use Rattle.items.specs.Decoding.{writtenAs, decoded, as-symbol, as-variable}
 
 pub record Asked (sig s q : List ℕ) : Type 0 where
@@ -51,7 +51,7 @@ module _ (sig s q : List ℕ) (A : Asked sig s q) where
     arities = A .arities;
   }
     where
-      name : (p : ℕ) → p < length (both s q) → Dec (p < length (codes 0 s)) → getD (both s q) p 0 < 32832
+      name : (p : ℕ) → p < length (both s q) → Dec (p < length (codes 0 s)) → getD (both s q) p 0 < writtenEnd
       name p b (yes l) =
           let i : p < length s / 2 = omega (arith, length-codes 0 s) in
           rw (List·getD-append (codes 0 s) (codes 32 q) 0 p l, getD-codes 0 s p i) (omega (arith, moved-le 0 (itemAt s p) (A .stored .named p i)))

@@ -19,7 +19,7 @@ use Rattle.unify.specs.Classes.{Classes, classes-less, classes-start, jo
 use Rattle.unify.specs.Masks.{On, maskOf, spread, Sets, Named, sets-term, sets-bind, sets-start}
 use Rattle.theory.specs.Nodes.{args, args-none, val, val-sym, val-var, begins-at, begins-term}
 use Rattle.unify.specs.Push.{Inside, Pushed}
-use Rattle.laws.specs.Sizes.{variableBase}
+use Rattle.laws.specs.Sizes.{variableBase, writtenEnd}
 use Rattle.terms.specs.Terms.{arity}
 
 -- terms one after another, as numbers
@@ -27,7 +27,7 @@ pub record Given (sig pool : List ℕ) : Type 0 where
   pub count : ℕ
   pub terms : Terms (arity sig) count (items16 pool)
   pub short : length pool ≤ 64
-  pub named : (p : ℕ) → p < length pool → getD pool p 0 < 32832
+  pub named : (p : ℕ) → p < length pool → getD pool p 0 < writtenEnd
   pub arities : (s : ℕ) → arity sig s ≤ 8
 
 -- the table of bindings: 0, or one more than the node that the variable is bound to; a variable leads to a symbol or
@@ -70,7 +70,7 @@ app-var σ x = append-nil (σ x)
 
 module _ (tab pool : List ℕ) (p : ℕ) where
   -- one binding followed
-  follow : (sig : List ℕ) (r e : ℕ) → r < length pool → variableBase ≤ getD pool r 0 → getD pool r 0 < 32832 → getD tab (getD pool r 0 - variableBase) 0 ≡ suc e
+  follow : (sig : List ℕ) (r e : ℕ) → r < length pool → variableBase ≤ getD pool r 0 → getD pool r 0 < writtenEnd → getD tab (getD pool r 0 - variableBase) 0 ≡ suc e
       → (B : List Bind) → Tab sig pool tab B → (σ : ℕ → List Item) → Solves σ B → app σ (term sig pool r) ≡ app σ (term sig pool e)
   follow sig r e b v n h B t σ s =
       let x = getD pool r 0 - variableBase in
@@ -81,7 +81,7 @@ module _ (tab pool : List ℕ) (p : ℕ) where
   Way r = (sig : List ℕ) (B : List Bind) → Tab sig pool tab B → (σ : ℕ → List Item) → Solves σ B
       → app σ (term sig pool p) ≡ app σ (term sig pool r)
 
-  pub way-more : (r e : ℕ) → r < length pool → variableBase ≤ getD pool r 0 → getD pool r 0 < 32832 → getD tab (getD pool r 0 - variableBase) 0 ≡ suc e → Way r → Way e
+  pub way-more : (r e : ℕ) → r < length pool → variableBase ≤ getD pool r 0 → getD pool r 0 < writtenEnd → getD tab (getD pool r 0 - variableBase) 0 ≡ suc e → Way r → Way e
   way-more r e b v n h w sig B t σ s = w sig B t σ s ∙ follow sig r e b v n h B t σ s
 
 -- variables with no binding
@@ -118,7 +118,7 @@ module _ (sig pool : List ℕ) (G : Given sig pool) where
   pub node-term : (p : ℕ) → p < length pool → Terms (arity sig) 1 (term sig pool p)
   node-term p b = begins-term (arity sig) (items16 pool) 1 p (begins-at (arity sig) (items16 pool) (G .count) p (G .terms) (omega (arith, length-items pool)))
 
-  named-list : (l : List ℕ) → ((p : ℕ) → p < length l → getD l p 0 < 32832) → Named (items16 l)
+  named-list : (l : List ℕ) → ((p : ℕ) → p < length l → getD l p 0 < writtenEnd) → Named (items16 l)
   named-list [] h y i = absurd i
   named-list (c ∷ l) h y i = go (decLe variableBase c) i (named-list l (λ p b. h (suc p) (omega arith)))
     where

@@ -12,10 +12,11 @@ ghost use Rattle.unify.specs.Masks.{bit, maskOf, spread};
 ghost use Rattle.unify.specs.Sums.{setOf};
 ghost use Rattle.unify.specs.Arms.{Bound};
 ghost use Rattle.unify.specs.Run.{Given, term};
+ghost use Rattle.laws.specs.Sizes.{writtenEnd};
 
 // The set of the item c: none of a symbol.
 fn set_of(masks: &[u64; 64], c: usize) -> u64
-    requires { ⌜ c < 32832 ⌝ }
+    requires { ⌜ c < writtenEnd ⌝ }
     ensures { λ r. ⌜ r ≡ setOf (now (masks .entry)) c ⌝ }
 {
     if c < VARIABLE {

@@ -21,11 +21,12 @@ ghost use Rattle.theory.specs.Relations.{Decided, Unifiable};
 ghost use Rattle.unify.specs.Run.{Given, Shape, Led, Ended};
 ghost use Rattle.unify.specs.Face.{Faced};
 ghost use Rattle.unify.specs.Pool.{Asked, Answer};
+ghost use Rattle.laws.specs.Sizes.{writtenEnd};
 
 // Where bindings lead from p.
 fn deref(tab: &[u8; 64], pool: &[u16], p: usize) -> usize
     requires { ⌜ Shape (now tab) (now pool) × (p < length (now pool))
-        × ((k : ℕ) → k < length (now pool) → getD (now pool) k 0 < 32832) ⌝ }
+        × ((k : ℕ) → k < length (now pool) → getD (now pool) k 0 < writtenEnd) ⌝ }
     ensures { λ r. ⌜ Led (now (tab .entry)) (now (pool .entry)) p r ⌝ }
 {
     let mut r = p;
@@ -51,7 +52,7 @@ enum Face {
 
 fn meet(pool: &[u16], p: usize, r: usize) -> Face
     requires { ⌜ (p < length (now pool)) × (r < length (now pool))
-        × ((k : ℕ) → k < length (now pool) → getD (now pool) k 0 < 32832) ⌝ }
+        × ((k : ℕ) → k < length (now pool) → getD (now pool) k 0 < writtenEnd) ⌝ }
     ensures { λ f. ⌜ Faced (now (pool .entry)) p r f ⌝ }
 {
     if p == r {

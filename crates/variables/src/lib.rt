@@ -4,7 +4,7 @@ use laws::VARIABLE16;
 ghost use mathlib.Core.Path.{_≡_};
 ghost use Prim.Native.Nat.{_+_, _≤_, _<_};
 ghost use Rattle.variables.specs.Sides.{StandsFor, OfItem};
-ghost use Rattle.laws.specs.Sizes.{variableBase, variableEnd};
+ghost use Rattle.laws.specs.Sizes.{variableBase, variableEnd, writtenEnd};
 
 // A variable of a stored term, 0 to 31.
 pub struct StoredVariable(pub u8);
@@ -66,7 +66,7 @@ impl QuestionVariable {
 impl WrittenVariable {
     // The variable of an item of a written term.
     pub fn of_item(c: usize) -> Self
-        requires { ⌜ (variableBase ≤ c) × (c < 32832) ⌝ }
+        requires { ⌜ (variableBase ≤ c) × (c < writtenEnd) ⌝ }
         ensures { λ r. ⌜ OfItem 64 c (r .0) ⌝ }
     {
         Self((c - VARIABLE) as u8)

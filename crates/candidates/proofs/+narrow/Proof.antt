@@ -26,7 +26,7 @@ use Rattle.termkeys.proofs.label_of.Reads as label-of-reads
 use Rattle.termkeys.proofs.place_below.Reads as place-below-reads
 use Rattle.candidates.proofs.+narrow.{statement}
 use Rattle.candidates.proofs.+narrow.Tie.{close}
-use Rattle.laws.specs.Sizes.{keyLimit, variableBase}
+use Rattle.laws.specs.Sizes.{keyLimit}
 
 abbrev μ-narrow : Measures 8 narrow-kinds.ps ℕ
 μ-narrow κs a = a .1 .1 .1 .1 .1 .1 .1 .1 .1 .1 .1 .0
@@ -41,7 +41,7 @@ abbrev R : ℕ → narrow-lts.Claims
 R t = (is-empty-reads.Asked, is-empty-reads.Learnt, star-at-reads.Asked, star-at-reads.Learnt, label-of-reads.Asked, label-of-reads.Learnt, find-reads.Asked, find-reads.Learnt, meet-reads.Asked, meet-reads.Learnt, wide-reads.Asked, wide-reads.Learnt, place-below-reads.Asked, place-below-reads.Learnt, narrow-below t, narrow.Post, or-reads.Asked, or-reads.Learnt)
 
 abbrev narrow-Inv-loop : narrow-lts.InvT-loop
-narrow-Inv-loop link label s0 s1 s2 s3 items ends rule at place levels within x k deep₀ end child₀ next₀ deep child next = (at < child) × (next ≤ variableBase + child) × (end ≤ length items) × Kids link label (four s0 s1 s2 s3) (rule .open) (rule .stars) items ends at x next₀ (deep₀ .words) child end next (deep .words)
+narrow-Inv-loop link label s0 s1 s2 s3 items ends rule at place levels within x k deep₀ end child₀ next₀ deep child next = (at < child) × (next ≤ keyLimit * 8 + child) × (end ≤ length items) × Kids link label (four s0 s1 s2 s3) (rule .open) (rule .stars) items ends at x next₀ (deep₀ .words) child end next (deep .words)
 
 abbrev narrow-μ-loop : narrow-lts.MeasureT-loop
 narrow-μ-loop link label s0 s1 s2 s3 items ends rule at place levels within x k deep₀ end child₀ next₀ deep child next = end - child

@@ -6,10 +6,10 @@ use Rattle.chains.proofs.FreeChainLaws.{heads-start, heads-turn}
 use lib.ListN.{length}
 use Rattle.chains.proofs.clear_heads.Statement.{statement}
 use Rattle.chains.proofs.clear_heads.Tie as tie
-use Rattle.laws.specs.Sizes.{freeHead}
+use Rattle.laws.specs.Sizes.{freeHead, lastKey}
 
 abbrev Inv-loop : tie.InvT-loop
-Inv-loop link₀ i₀ link i = (i ≤ freeHead) × (4095 ≤ i) × NoHeads link₀ link i
+Inv-loop link₀ i₀ link i = (i ≤ freeHead) × (lastKey ≤ i) × NoHeads link₀ link i
 
 abbrev μ-loop : tie.MeasureT-loop
 μ-loop link₀ i₀ link i = freeHead - i

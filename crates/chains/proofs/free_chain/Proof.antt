@@ -6,12 +6,13 @@ use Rattle.chains.proofs.FreeChainLaws.{chain-start, chain-turn}
 use lib.ListN.{length}
 use Rattle.chains.proofs.free_chain.Statement.{statement}
 use Rattle.chains.proofs.free_chain.Tie as tie
+use Rattle.laws.specs.Sizes.{lastKey}
 
 abbrev Inv-loop : tie.InvT-loop
-Inv-loop link₀ i₀ link i = (i ≤ 4095) × FreeChain link₀ link i
+Inv-loop link₀ i₀ link i = (i ≤ lastKey) × FreeChain link₀ link i
 
 abbrev μ-loop : tie.MeasureT-loop
-μ-loop link₀ i₀ link i = 4095 - i
+μ-loop link₀ i₀ link i = lastKey - i
 
 loop-holds : tie.Need-loop-holds Inv-loop μ-loop
 loop-holds c = (omega arith, chain-start _)
@@ -41,7 +42,7 @@ same-length : tie.Need-same-length Inv-loop μ-loop
 same-length c = (c .before .loop) .inv .1 .same
 
 returns : tie.Need-returns Inv-loop μ-loop
-returns c = let l = (c .before .loop) in let e : l .i ≡ 4095 = omega arith in rw e at (l .inv .1)
+returns c = let l = (c .before .loop) in let e : l .i ≡ lastKey = omega arith in rw e at (l .inv .1)
 
 pub free-chain-spec : {M : Type 1} → statement M
 free-chain-spec =

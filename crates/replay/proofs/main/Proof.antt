@@ -4,14 +4,14 @@ use mathlib.Core.Path.{_≡_, refl, sym, _∙_}
 use lib.ListN.{length}
 use lib.Seq.{length-take-le}
 use borrow.Author.Needs.{needs}
-use Rattle.laws.specs.Sizes.{bytesLength, usedLength, labelLength, linkLength, setLength, answerRoom, lineRoom}
+use Rattle.laws.specs.Sizes.{bytesLength, usedLength, labelLength, linkLength, setLength, inputLimit, answerRoom, lineRoom}
 use Rattle.turns.specs.Prints.{turned-onward}
 use Rattle.replay.proofs.main.Statement.{statement}
 use Rattle.replay.proofs.main.Tie as tie
 
 abbrev Inv-loop : tie.InvT-loop
 Inv-loop input bytes₀ used₀ label₀ link₀ s0₀ s1₀ s2₀ s3₀ out₀ line₀ n at₀ bytes used label link s0 s1 s2 s3 out line at =
-    (n ≤ 65536) × (length bytes ≡ bytesLength) × (length used ≡ usedLength) × (length label ≡ labelLength) × (length link ≡ linkLength) × (length s0 ≡ setLength) × (length s1 ≡ setLength) × (length s2 ≡ setLength) × (length s3 ≡ setLength) × (length out ≡ answerRoom) × (length line ≡ lineRoom)
+    (n ≤ inputLimit + 1) × (length bytes ≡ bytesLength) × (length used ≡ usedLength) × (length label ≡ labelLength) × (length link ≡ linkLength) × (length s0 ≡ setLength) × (length s1 ≡ setLength) × (length s2 ≡ setLength) × (length s3 ≡ setLength) × (length out ≡ answerRoom) × (length line ≡ lineRoom)
 
 abbrev μ-loop : tie.MeasureT-loop
 μ-loop input bytes₀ used₀ label₀ link₀ s0₀ s1₀ s2₀ s3₀ out₀ line₀ n at₀ bytes used label link s0 s1 s2 s3 out line at =

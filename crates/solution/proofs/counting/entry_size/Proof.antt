@@ -4,7 +4,7 @@ use mathlib.Core.Path.{_≡_, ap, _∙_}
 use mathlib.Core.Logic.{_≢_}
 use native.Mathlib.Omega.{arith}
 use lib.ListN.{getD}
-use Rattle.solution.specs.Values.{size, table, entry-none, entry-some}
+use Rattle.solution.specs.Values.{size, sizeCut, table, entry-none, entry-some}
 use Rattle.unify.specs.Run.{term}
 use Rattle.solution.proofs.counting.entry_size.Statement.{statement}
 use Rattle.solution.proofs.counting.entry_size.Tie as tie
@@ -47,7 +47,7 @@ returns-2 c = let s = (c .before .before .before .before .before .before .before
     let y = s .args .y in
     let we : (c .before .before .before .wide) .result ≡ getD tab y 0 = (c .before .before .before .wide) .ensures .0 in
     let n : getD tab y 0 ≢ 0 = λ z. (c .before .before .if1) .left (we ∙ z) in
-    entry-some sig pool sz (getD tab y 0) _ n (c .low16 .ensures ∙ (c .before .size-of) .ensures ∙ ap (λ (j : ℕ). min (size (table sz) (term sig pool (j - 1))) 2049) we)
+    entry-some sig pool sz (getD tab y 0) _ n (c .low16 .ensures ∙ (c .before .size-of) .ensures ∙ ap (λ (j : ℕ). min (size (table sz) (term sig pool (j - 1))) sizeCut) we)
 
 pub entry-size-spec : {M : Type 1} → statement M
 entry-size-spec =
