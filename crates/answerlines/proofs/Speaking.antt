@@ -8,7 +8,7 @@ use Rattle.terms.specs.Refusals.{numberOf}
 use Rattle.calls.specs.declared.Reply.{Reply}
 use Rattle.calls.specs.declared.Reply.the-variants.{Done, Refused}
 use Rattle.orders.specs.declared.Order.{Order}
-use Rattle.log.specs.Lines.{Put, foundLine, solvedLine, refusedLine}
+use Rattle.lines.specs.Lines.{Put, foundLine, solvedLine, refusedLine}
 use Rattle.answerlines.specs.Spoken.{spokenWord, spokenDone, spoken}
 
 -- a line by another name of its parts

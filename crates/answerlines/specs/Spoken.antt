@@ -9,7 +9,7 @@ use Rattle.calls.specs.declared.Reply.{Reply}
 use Rattle.calls.specs.declared.Reply.the-variants.{Done, Refused}
 use Rattle.orders.specs.declared.Order.{Order}
 use Rattle.orders.specs.declared.Order.the-variants.{Open, Insert, Delete, WithKey, Retrieve, Solve, Nothing}
-use Rattle.log.specs.Lines.{plainLine, refusedLine, slotLine, foundLine, solvedLine}
+use Rattle.lines.specs.Lines.{plainLine, refusedLine, slotLine, foundLine, solvedLine}
 use Rattle.tasks.specs.Operations.{toOpen, toInsert, toDelete, toRetrieve, toSolve}
 use Rattle.answerlines.specs.Words.{wordOf, logWord}
 

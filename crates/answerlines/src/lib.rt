@@ -5,7 +5,7 @@ ghost use mathlib.Core.Path.{_≡_};
 ghost use mathlib.Core.Bool.{Bool};
 ghost use Prim.Native.Nat.{_*_, _/_, _≤_, min};
 ghost use lib.ListN.{length, take};
-ghost use Rattle.log.specs.Lines.{Put, foundLine, solvedLine};
+ghost use Rattle.lines.specs.Lines.{Put, foundLine, solvedLine};
 ghost use Rattle.answerlines.specs.Spoken.{spokenWord, spokenDone, spoken, ending, stopping};
 
 // The word that a line starts with: some letters of eight.
@@ -61,7 +61,7 @@ fn say_found(line: &mut [u8], word: &[u8], candidates: usize, answers: usize, ou
         (take (min answers (length (now (out .entry)) / 2) * 2) (now (out .entry)))) r ⌝ }
 {
     let n = least(answers, out.len() / 2) * 2;
-    log::found_line(line, word, candidates, answers, &out[..n])
+    lines::found_line(line, word, candidates, answers, &out[..n])
 }
 
 // The record stands at the start of the answer buffer.
@@ -70,7 +70,7 @@ fn say_record(line: &mut [u8], word: &[u8], fields: usize, written: usize, out: 
         (take (min written (length (now (out .entry)))) (now (out .entry)))) r ⌝ }
 {
     let n = least(written, out.len());
-    log::solved_line(line, word, fields, &out[..n])
+    lines::solved_line(line, word, fields, &out[..n])
 }
 
 fn say_done(
@@ -85,13 +85,13 @@ fn say_done(
         (spokenDone order (now (word .entry)) first second (now (out .entry))) r ⌝ }
 {
     match order {
-        Order::Open => log::plain_line(line, word),
+        Order::Open => lines::plain_line(line, word),
         Order::Retrieve(_) => say_found(line, word, first, second, out),
         Order::Solve(_) => say_record(line, word, first, second, out),
-        Order::Insert => log::slot_line(line, word, first),
-        Order::Delete(_) => log::slot_line(line, word, first),
-        Order::WithKey => log::slot_line(line, word, first),
-        Order::Nothing => log::slot_line(line, word, first),
+        Order::Insert => lines::slot_line(line, word, first),
+        Order::Delete(_) => lines::slot_line(line, word, first),
+        Order::WithKey => lines::slot_line(line, word, first),
+        Order::Nothing => lines::slot_line(line, word, first),
     }
 }
 
@@ -104,7 +104,7 @@ pub fn say(order: Order, reply: Reply, out: &[u8], line: &mut [u8]) -> usize
     let letters = word.letters;
     match reply {
         Reply::Done(first, second) => say_done(order, first, second, &letters[..n], out, line),
-        Reply::Refused(why) => log::refused_line(line, &letters[..n], why.number()),
+        Reply::Refused(why) => lines::refused_line(line, &letters[..n], why.number()),
     }
 }
 

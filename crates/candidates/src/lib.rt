@@ -21,7 +21,7 @@ ghost use Rattle.termkeys.specs.Fill.{Sized};
 ghost use Rattle.candidates.specs.Ends.{EndsFrom, Ended};
 ghost use Rattle.candidates.specs.Narrow.{Narrowed};
 ghost use Rattle.candidates.specs.Walk.{having, walk};
-ghost use Rattle.laws.specs.Sizes.{rootPlace};
+ghost use Rattle.laws.specs.Sizes.{placeEnd, rootPlace};
 
 // Which variables agree with anything at their place: the question's, the stored term's.
 pub struct Rule {
@@ -68,7 +68,7 @@ fn star_at(
     place: u32,
     within: SlotSet,
 ) -> SlotSet
-    requires { ⌜ Sized (now link) (now label) (now s0) (now s1) (now s2) (now s3) × (place < 40000) ⌝ }
+    requires { ⌜ Sized (now link) (now label) (now s0) (now s1) (now s2) (now s3) × (place < placeEnd) ⌝ }
     ensures { λ r. ⌜ r .words
         ≡ having (now (link .entry)) (now (label .entry))
         (four (now (s0 .entry)) (now (s1 .entry)) (now (s2 .entry)) (now (s3 .entry))) place 256 (within .words) ⌝ }
@@ -95,7 +95,7 @@ fn narrow(
 ) -> SlotSet
     requires { ⌜ Sized (now link) (now label) (now s0) (now s1) (now s2) (now s3) ⌝ }
     requires { ⌜ (at < length (now items)) × (length (now items) ≤ at + levels) × (length (now items) ≤ 32)
-        × EndsFrom 0 (length (now items)) (now ends) × (place < 40000) ⌝ }
+        × EndsFrom 0 (length (now items)) (now ends) × (place < placeEnd) ⌝ }
     ensures { λ r. ⌜ Narrowed (now (link .entry)) (now (label .entry))
         (four (now (s0 .entry)) (now (s1 .entry)) (now (s2 .entry)) (now (s3 .entry))) (rule .open) (rule .stars)
         (now (items .entry)) (now (ends .entry)) at place (within .words) (r .words) ⌝ }

@@ -17,8 +17,8 @@ use Rattle.calls.specs.declared.Reply.{Reply}
 use Rattle.calls.specs.declared.Reply.the-variants.{Done, Refused}
 use Rattle.orders.specs.declared.Order.{Order}
 use Rattle.orders.specs.declared.Order.the-variants.{Open, Insert, Delete, WithKey, Retrieve, Solve, Nothing}
-use Rattle.log.specs.Lines.{Put, foundLine, slotLine, solvedLine, refusedLine}
-use Rattle.log.proofs.LogLaws.{put-none}
+use Rattle.lines.specs.Lines.{Put, foundLine, slotLine, solvedLine, refusedLine}
+use Rattle.lines.proofs.LineLaws.{put-none}
 use Rattle.casetext.specs.declared.Case.{Case}
 use Rattle.caselines.specs.Said.{orderOf, sumFrom, checksumOf, shortLine, listedLine, edgeSignature, argumentLine, writtenBy, answerLine, doneLine, refusalLine, said}
 

@@ -13,7 +13,7 @@ use Rattle.calls.specs.declared.Reply.{Reply}
 use Rattle.calls.specs.declared.Reply.the-variants.{Done, Refused}
 use Rattle.orders.specs.declared.Order.{Order}
 use Rattle.orders.specs.declared.Order.the-variants.{Open, Insert, Delete, WithKey, Retrieve, Solve, Nothing}
-use Rattle.log.specs.Lines.{ok, feed, figure, slotList, plainLine, refusedLine, slotLine, foundLine, solvedLine}
+use Rattle.lines.specs.Lines.{ok, feed, figure, slotList, plainLine, refusedLine, slotLine, foundLine, solvedLine}
 use Rattle.casetext.specs.declared.Case.{Case}
 
 -- the call that a word asks for, n the case's number

@@ -8,7 +8,7 @@ use orders::Order;
 ghost use mathlib.Core.Path.{_≡_};
 ghost use Prim.Native.Nat.{_≤_, _<_, min};
 ghost use Rattle.laws.specs.Sizes.{answerRoom};
-ghost use Rattle.log.specs.Lines.{Put};
+ghost use Rattle.lines.specs.Lines.{Put};
 ghost use Rattle.caselines.specs.Said.{orderOf, checksumOf, shortLine, listedLine, argumentLine, writtenBy, answerLine, doneLine, refusalLine, said};
 
 // The call that a case's word asks for.
@@ -57,7 +57,7 @@ fn short_line(line: &mut [u8], head: &[u8], a: usize, b: usize, bytes: &[u8]) ->
 {
     let sum = checksum(bytes);
     let two = [low(sum / 256), low(sum % 256)];
-    log::found_line(line, head, a, b, &two)
+    lines::found_line(line, head, a, b, &two)
 }
 
 // The number of slots of a listing, and the slots.
@@ -65,11 +65,11 @@ fn listed_line(line: &mut [u8], head: &[u8], slots: usize, listing: &[u8]) -> us
     ensures { λ r. ⌜ Put (now (line .entry)) (now (line .exit)) 0
         (listedLine (now (head .entry)) slots (now (listing .entry))) r ⌝ }
 {
-    let x = log::put_bytes(line, 0, head);
-    let y = log::put_bytes(line, x, b" ok");
-    let z = log::put_figure(line, y, slots);
-    let w = log::put_slots(line, z, listing);
-    log::put_byte(line, w, b'\n')
+    let x = lines::put_bytes(line, 0, head);
+    let y = lines::put_bytes(line, x, b" ok");
+    let z = lines::put_figure(line, y, slots);
+    let w = lines::put_slots(line, z, listing);
+    lines::put_byte(line, w, b'\n')
 }
 
 // Argument i of a term over the signature of P1 to P12: how many bytes it has, and its bytes.
@@ -80,10 +80,10 @@ fn say_argument(i: usize, term: &[u8], head: &[u8], line: &mut [u8]) -> usize
     let sig = [0u8, 0, 2, 1];
     let refused = arguments::argument_refusal(&sig, term, i);
     if refused != 0 {
-        return log::refused_line(line, head, refused);
+        return lines::refused_line(line, head, refused);
     }
     let part = arguments::argument(&sig, term, i);
-    log::solved_line(line, head, part.len(), part)
+    lines::solved_line(line, head, part.len(), part)
 }
 
 // How many bytes of the answer buffer an answer has: two a slot of a listing, or a record.
@@ -114,13 +114,13 @@ fn say_bytes(
         (answerLine word (now (head .entry)) first second (now (bytes .entry))) r ⌝ }
 {
     match word {
-        b'o' => log::plain_line(line, head),
+        b'o' => lines::plain_line(line, head),
         b'k' => listed_line(line, head, first, bytes),
-        b'r' => log::found_line(line, head, first, second, bytes),
-        b's' => log::solved_line(line, head, first, bytes),
+        b'r' => lines::found_line(line, head, first, second, bytes),
+        b's' => lines::solved_line(line, head, first, bytes),
         b'n' => short_line(line, head, first, second, bytes),
         b'm' => short_line(line, head, first, second, bytes),
-        _ => log::slot_line(line, head, first),
+        _ => lines::slot_line(line, head, first),
     }
 }
 
@@ -146,7 +146,7 @@ fn say_refused(case: Case, number: u8, head: &[u8], given: &[u8], line: &mut [u8
         (refusalLine case (now (head .entry)) number (now (given .entry))) r ⌝ }
 {
     if number != 16 {
-        return log::refused_line(line, head, number);
+        return lines::refused_line(line, head, number);
     }
     if case.word == b'a' {
         return say_argument(case.number, given, head, line);

@@ -48,6 +48,6 @@ pub fn delete(
     let mut keys = [0u16; 32];
     let n = keys_in(bytes, link, label, slot, &mut keys);
     termkeys::delete_all(link, label, s0, s1, s2, s3, &keys, n, slot);
-    layout::put_used(used, set.remove(slot));
+    filling::put_used(used, set.remove(slot));
     Reply::Done(slot, 0)
 }

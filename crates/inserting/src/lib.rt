@@ -74,7 +74,7 @@ pub fn insert(
         &mut keys,
         free,
     );
-    layout::put_term(bytes, free, t);
-    layout::put_used(used, set.insert(free));
+    filling::put_term(bytes, free, t);
+    filling::put_used(used, set.insert(free));
     Reply::Done(free, 0)
 }

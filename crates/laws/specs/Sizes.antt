@@ -68,6 +68,10 @@ freeHead = linkLength - 1
 abbrev pub rootPlace : ℕ
 rootPlace = 8 * keyLimit + 8
 
+-- the numbers of places are below it, that of a key's bytes too, whose argument's number is any byte
+abbrev pub placeEnd : ℕ
+placeEnd = 8 * keyLimit + 256
+
 -- THE LOG PROGRAM: 'at most 65,535 bytes', 'the answer buffer has 32,768 bytes', and the buffer of a line
 abbrev pub inputLimit : ℕ
 inputLimit = 65535

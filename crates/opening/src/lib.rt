@@ -1,10 +1,10 @@
 // Opening: the lent tables get a signature and nothing else (SCOPE.md, 'Store').
 use calls::Reply;
 use chains::free_all;
+use filling::clear32;
+use filling::clear64;
 use laws::KEYS;
 use laws::SETS;
-use layout::clear32;
-use layout::clear64;
 use layout::lengths_suffice;
 use terms::Checked;
 use terms::Refusal;
@@ -50,7 +50,7 @@ pub fn open(
     if let Checked::Refused(why) = checked {
         return Reply::Refused(why);
     }
-    layout::put_signature(bytes, sig);
+    filling::put_signature(bytes, sig);
     clear64(used, 8);
     clear32(label, KEYS);
     free_all(link);

@@ -22,7 +22,7 @@ ghost use Rattle.paths.specs.TreeWalk.{upNum};
 ghost use Rattle.paths.specs.Insert.{keyFor, entered};
 ghost use Rattle.paths.specs.Delete.{left as leftOf};
 ghost use Rattle.termkeys.specs.Fill.{tables, Sized, fill, both, insFill, delFill};
-ghost use Rattle.laws.specs.Sizes.{keyLimit, linkLength, slotCount};
+ghost use Rattle.laws.specs.Sizes.{keyLimit, linkLength, placeEnd, slotCount};
 
 // A number of two bytes as part of a label.
 fn long16(x: u16) -> u32
@@ -222,7 +222,7 @@ pub fn place_below(k: usize) -> u32
 // The number of the place of argument i, counted from 1, below key k.
 pub fn place_of(k: usize, i: u8) -> u32
     requires { ⌜ k ≤ keyLimit ⌝ }
-    ensures { λ r. ⌜ (r ≡ k * 8 + (i - 1)) × (r < 33024) ⌝ }
+    ensures { λ r. ⌜ (r ≡ k * 8 + (i - 1)) × (r < placeEnd) ⌝ }
 {
     if i == 0 {
         return place_below(k);

@@ -18,7 +18,7 @@ use Rattle.calls.specs.Outcome.{Outcome, outcome, Result, told}
 use Rattle.orders.specs.declared.Order.{Order}
 use Rattle.orders.specs.declared.Order.the-variants.{Open, Insert, Delete, WithKey, Retrieve, Solve, Nothing}
 use Rattle.orders.specs.Orders.{ordered}
-use Rattle.log.specs.Lines.{Put}
+use Rattle.lines.specs.Lines.{Put}
 use Rattle.tasks.specs.Operations.{payload}
 use Rattle.tasks.specs.Ordered.{InLog, operationOf, operationAt, placePast}
 use Rattle.answerlines.specs.Spoken.{spoken, ending, stopping}

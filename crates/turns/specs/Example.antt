@@ -19,7 +19,7 @@ use Rattle.definitions.specs.Answers.{longFrom}
 use Rattle.library.specs.Store.{slotsFrom, inUse, freeFrom, put, place?, key?, keysFrom, distinct, candidates, answers, answered, empty, after}
 use Rattle.log.specs.Fields.{fieldAt}
 use Rattle.log.specs.Reading.{before, fieldsWithin, fieldsFrom}
-use Rattle.log.specs.Lines.{digits, decimal, hex, slotList, recordText, plainLine, refusedLine, slotLine, foundLine, solvedLine}
+use Rattle.lines.specs.Lines.{digits, decimal, hex, slotList, recordText, plainLine, refusedLine, slotLine, foundLine, solvedLine}
 use Rattle.tasks.specs.Operations.{firstOperation, laterOperation}
 use Rattle.turns.specs.Printed.{laterLines, firstLines, linesOf, textOfAll, printed}
 

@@ -18,7 +18,7 @@ use Rattle.terms.specs.Terms.{sigRefusal}
 use Rattle.definitions.specs.Answers.{Answer, refused, done, unless}
 use Rattle.library.specs.Store.{Store, openWith, answered}
 use Rattle.log.specs.Fields.{fieldAt}
-use Rattle.log.specs.Lines.{digits, decimal, plainLine, refusedLine, slotLine, foundLine, solvedLine}
+use Rattle.lines.specs.Lines.{digits, decimal, plainLine, refusedLine, slotLine, foundLine, solvedLine}
 use Rattle.log.specs.Reading.{placeAfter, before, fieldsWithin, fieldsFrom, fieldsOf, fieldOr}
 use Rattle.log.specs.declared.field.Field.{Field}
 use Rattle.log.specs.declared.field.Field.the-variants.{End, Cut, Whole}

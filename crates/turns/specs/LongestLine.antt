@@ -26,11 +26,11 @@ use Rattle.definitions.specs.Answers.{Answer, refused, done, unless, longFrom, 
 use Rattle.library.specs.Store.{Store, slotsFrom, inUse, firstFree, put, keyCount, candidates, answers, solving, answered}
 use Rattle.library.specs.Sound.{free-most, use-below}
 use Rattle.library.specs.Readable.{slots-are}
-use Rattle.log.specs.Lines.{decimal, hex, slotList, recordText, ok, no as not, feed, figure, plainLine, refusedLine, slotLine, foundLine, solvedLine}
+use Rattle.lines.specs.Lines.{decimal, hex, slotList, recordText, ok, no as not, feed, figure, plainLine, refusedLine, slotLine, foundLine, solvedLine}
 use Rattle.log.specs.declared.field.Field.{Field}
 use Rattle.log.specs.declared.field.Field.the-variants.{End, Cut, Whole}
 use Rattle.log.specs.Reading.{fieldsOf}
-use Rattle.log.proofs.LogLaws.{decimal-one, decimal-more}
+use Rattle.lines.proofs.LineLaws.{decimal-one, decimal-more}
 use Rattle.tasks.specs.Operations.{Operation, toOpen, toInsert, toDelete, toRetrieve, toSolve, operationIn}
 use Rattle.answerlines.specs.Words.{wordOf, logWord}
 use Rattle.turns.specs.Printed.{libraryCall, Line, log, moved, lineThen, laterLines, unlessRefused, unopened, firstLines, linesOf, answerText, textOf}

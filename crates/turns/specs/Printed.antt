@@ -14,7 +14,7 @@ use Rattle.definitions.specs.Answers.{Answer, refused, done, unless}
 use Rattle.library.specs.Store.{Store, Call, openWith, insert, delete, retrieve, solve, answered, empty, after}
 use Rattle.log.specs.declared.field.Field.{Field}
 use Rattle.log.specs.Reading.{fieldsOf}
-use Rattle.log.specs.Lines.{plainLine, refusedLine, slotLine, foundLine, solvedLine}
+use Rattle.lines.specs.Lines.{plainLine, refusedLine, slotLine, foundLine, solvedLine}
 use Rattle.tasks.specs.Operations.{Operation, toOpen, toInsert, toDelete, toRetrieve, toSolve, operationIn}
 use Rattle.answerlines.specs.Words.{wordOf, logWord}
 

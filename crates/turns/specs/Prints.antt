@@ -33,7 +33,7 @@ use Rattle.log.specs.declared.field.Field.{Field}
 use Rattle.log.specs.declared.field.Field.the-variants.{End, Cut, Whole}
 use Rattle.log.specs.Fields.{fieldAt, lengthAt}
 use Rattle.log.specs.Reading.{placeAfter, takenAt, before, fieldsFrom, fieldsOf}
-use Rattle.log.specs.Lines.{Put, refusedLine, plainLine}
+use Rattle.lines.specs.Lines.{Put, refusedLine, plainLine}
 use Rattle.log.proofs.Fields.{field-end, taken-onward}
 use Rattle.log.proofs.Reading.{next-first}
 use Rattle.tasks.specs.Operations.{Operation, toOpen, toInsert, toDelete, toRetrieve, toSolve, firstOperation, deleteOperation, retrieveOperation, solveOperation, laterOperation, payload, operationIn}

@@ -14,7 +14,7 @@ use Rattle.definitions.specs.Answers.{refuse}
 use Rattle.layout.specs.Tables.{Tables}
 use Rattle.calls.specs.Outcome.{Outcome, Result, result, told}
 use Rattle.meaning.specs.Runs.{carried}
-use Rattle.log.specs.Lines.{Put, refusedLine}
+use Rattle.lines.specs.Lines.{Put, refusedLine}
 use Rattle.tasks.specs.Operations.{Operation, toOpen, toInsert, toDelete, toRetrieve, toSolve}
 use Rattle.tasks.specs.Ordered.{operationAt, placePast}
 use Rattle.answerlines.specs.Words.{wordOf, logWord}

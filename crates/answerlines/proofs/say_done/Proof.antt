@@ -1,4 +1,4 @@
-use Rattle.log.proofs.LogLaws.{put-length}
+use Rattle.lines.proofs.LineLaws.{put-length}
 use Rattle.answerlines.proofs.Speaking.{done-put}
 use borrow.Author.Needs.{needs}
 use Rattle.answerlines.proofs.say_done.Statement.{statement}

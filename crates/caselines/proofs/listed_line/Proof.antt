@@ -1,6 +1,6 @@
 use mathlib.Core.Path.{sym, refl}
 use native.Mathlib.Omega.{arith}
-use Rattle.log.proofs.LogLaws.{put-within, put-length, put-then}
+use Rattle.lines.proofs.LineLaws.{put-within, put-length, put-then}
 use borrow.Author.Needs.{needs}
 use Rattle.caselines.proofs.listed_line.Statement.{statement}
 use Rattle.caselines.proofs.listed_line.Tie as tie

@@ -1,4 +1,4 @@
-use Rattle.log.proofs.LogLaws.{put-length}
+use Rattle.lines.proofs.LineLaws.{put-length}
 use Rattle.caselines.proofs.Saying.{answer-known, answer-rest}
 use borrow.Author.Needs.{needs}
 use Rattle.caselines.proofs.say_bytes.Statement.{statement}

@@ -1,4 +1,4 @@
-use Rattle.log.proofs.LogLaws.{put-length}
+use Rattle.lines.proofs.LineLaws.{put-length}
 use Rattle.caselines.proofs.Saying.{done-put}
 use lib.Seq.{length-take-le}
 use native.Mathlib.Omega.{arith}

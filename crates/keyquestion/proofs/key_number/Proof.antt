@@ -1,3 +1,4 @@
+use Rattle.laws.specs.Sizes.{placeEnd}
 use Prim.Native.Nat.{_-_, _<_}
 use mathlib.Core.Path.{_≡_, ap, _∙_}
 use native.Mathlib.Omega.{arith}
@@ -12,7 +13,7 @@ use Rattle.keyquestion.proofs.key_number.Statement.{statement}
 use Rattle.keyquestion.proofs.key_number.Tie as tie
 
 abbrev Inv-loop : tie.InvT-loop
-Inv-loop link label key place₀ rest₀ place rest = (place < 33024) × (numberFrom link label place rest ≡ keyNumber link label key)
+Inv-loop link label key place₀ rest₀ place rest = (place < placeEnd) × (numberFrom link label place rest ≡ keyNumber link label key)
 
 abbrev μ-loop : tie.MeasureT-loop
 μ-loop link label key place₀ rest₀ place rest = length rest
