@@ -3,11 +3,11 @@ use Prim.Native.Nat.{ℕ, _*_, _/_, min}
 use mathlib.Core.Path.{_≡_, sym}
 use mathlib.Core.List.{List}
 use lib.ListN.{length, take}
-use Rattle.terms.specs.declared.Refusal.{Refusal}
-use Rattle.terms.specs.Refusals.{numberOf}
+use Rattle.refusals.specs.declared.Refusal.{Refusal}
+use Rattle.refusals.specs.Refusals.{numberOf}
 use Rattle.calls.specs.declared.Reply.{Reply}
 use Rattle.calls.specs.declared.Reply.the-variants.{Done, Refused}
-use Rattle.orders.specs.declared.Order.{Order}
+use Rattle.calls.specs.declared.Order.{Order}
 use Rattle.lines.specs.Lines.{Put, foundLine, solvedLine, refusedLine}
 use Rattle.answerlines.specs.Spoken.{spokenWord, spokenDone, spoken}
 

@@ -4,11 +4,11 @@ use Prim.Native.Nat.{ℕ, _*_, _/_, min}
 use mathlib.Core.Bool.{Bool, true, false}
 use mathlib.Core.List.{List, [], _∷_}
 use lib.ListN.{length, take}
-use Rattle.terms.specs.Refusals.{numberOf}
+use Rattle.refusals.specs.Refusals.{numberOf}
 use Rattle.calls.specs.declared.Reply.{Reply}
 use Rattle.calls.specs.declared.Reply.the-variants.{Done, Refused}
-use Rattle.orders.specs.declared.Order.{Order}
-use Rattle.orders.specs.declared.Order.the-variants.{Open, Insert, Delete, WithKey, Retrieve, Solve, Nothing}
+use Rattle.calls.specs.declared.Order.{Order}
+use Rattle.calls.specs.declared.Order.the-variants.{Open, Insert, Delete, WithKey, Retrieve, Solve, Nothing}
 use Rattle.lines.specs.Lines.{plainLine, refusedLine, slotLine, foundLine, solvedLine}
 use Rattle.tasks.specs.Operations.{toOpen, toInsert, toDelete, toRetrieve, toSolve}
 use Rattle.answerlines.specs.Words.{wordOf, logWord}

@@ -1,6 +1,6 @@
 // The line of a reply (SCOPE.md, 'The log program').
+use calls::Order;
 use calls::Reply;
-use orders::Order;
 ghost use mathlib.Core.Path.{_≡_};
 ghost use mathlib.Core.Bool.{Bool};
 ghost use Prim.Native.Nat.{_*_, _/_, _≤_, min};

@@ -1,14 +1,14 @@
 // The argument of a term, as a part of the term's own bytes (SCOPE.md, 'Term bytes').
 use laws::number_at;
-use terms::Checked;
-use terms::Refusal;
+use refusals::Checked;
+use refusals::Refusal;
 use terms::arity;
 use terms::check;
 use terms::walk;
 ghost use mathlib.Core.Path.{_≡_};
 ghost use Prim.Native.Nat.{_+_, _≤_};
 ghost use lib.ListN.{length, drop};
-ghost use Rattle.terms.specs.Refusals.{checkedNumber};
+ghost use Rattle.refusals.specs.Refusals.{checkedNumber};
 ghost use Rattle.terms.specs.Terms.{span, argRefusal, argBytes, argStart};
 ghost use Rattle.terms.specs.Places.{partPlace};
 

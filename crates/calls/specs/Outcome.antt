@@ -6,10 +6,10 @@ use mathlib.Core.Path.{_≡_, refl, sym, ap, _∙_}
 use mathlib.Core.List.{List}
 use lib.Seq.{sets}
 use Rattle.laws.specs.Choice.{pick}
-use Rattle.terms.specs.declared.Refusal.{Refusal}
-use Rattle.terms.specs.declared.Refusal.the-variants as Refusal
-use Rattle.terms.specs.Refusals.{numberOf}
-use Rattle.terms.specs.Numbers.{number-some, number-one}
+use Rattle.refusals.specs.declared.Refusal.{Refusal}
+use Rattle.refusals.specs.declared.Refusal.the-variants as Refusal
+use Rattle.refusals.specs.Refusals.{numberOf}
+use Rattle.refusals.specs.Numbers.{number-some, number-one}
 use Rattle.definitions.specs.Answers.{Answer, refused, done, refusalIn, firstIn, secondIn, written, unless, refuse}
 use Rattle.layout.specs.Tables.{Tables, ample}
 use Rattle.calls.specs.declared.Reply.{Reply}

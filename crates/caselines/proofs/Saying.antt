@@ -10,13 +10,13 @@ use lib.Seq.{drop-cons}
 use lib.Dec.{eqb}
 use Rattle.laws.specs.Choice.{pick}
 use Rattle.laws.specs.Sizes.{answerRoom}
-use Rattle.terms.specs.declared.Refusal.{Refusal}
-use Rattle.terms.specs.Refusals.{numberOf}
+use Rattle.refusals.specs.declared.Refusal.{Refusal}
+use Rattle.refusals.specs.Refusals.{numberOf}
 use Rattle.terms.specs.Terms.{argRefusal, argBytes}
 use Rattle.calls.specs.declared.Reply.{Reply}
 use Rattle.calls.specs.declared.Reply.the-variants.{Done, Refused}
-use Rattle.orders.specs.declared.Order.{Order}
-use Rattle.orders.specs.declared.Order.the-variants.{Open, Insert, Delete, WithKey, Retrieve, Solve, Nothing}
+use Rattle.calls.specs.declared.Order.{Order}
+use Rattle.calls.specs.declared.Order.the-variants.{Open, Insert, Delete, WithKey, Retrieve, Solve, Nothing}
 use Rattle.lines.specs.Lines.{Put, foundLine, slotLine, solvedLine, refusedLine}
 use Rattle.lines.proofs.LineLaws.{put-none}
 use Rattle.casetext.specs.declared.Case.{Case}

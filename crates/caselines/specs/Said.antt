@@ -7,12 +7,12 @@ use lib.ListN.{length, take}
 use lib.Dec.{eqb}
 use Rattle.laws.specs.Choice.{pick}
 use Rattle.laws.specs.Sizes.{answerRoom}
-use Rattle.terms.specs.Refusals.{numberOf}
+use Rattle.refusals.specs.Refusals.{numberOf}
 use Rattle.terms.specs.Terms.{argRefusal, argBytes}
 use Rattle.calls.specs.declared.Reply.{Reply}
 use Rattle.calls.specs.declared.Reply.the-variants.{Done, Refused}
-use Rattle.orders.specs.declared.Order.{Order}
-use Rattle.orders.specs.declared.Order.the-variants.{Open, Insert, Delete, WithKey, Retrieve, Solve, Nothing}
+use Rattle.calls.specs.declared.Order.{Order}
+use Rattle.calls.specs.declared.Order.the-variants.{Open, Insert, Delete, WithKey, Retrieve, Solve, Nothing}
 use Rattle.lines.specs.Lines.{ok, feed, figure, slotList, plainLine, refusedLine, slotLine, foundLine, solvedLine}
 use Rattle.casetext.specs.declared.Case.{Case}
 

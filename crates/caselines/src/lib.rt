@@ -1,10 +1,10 @@
 // The line of what a case got: its first three words, then the answer as the log program writes it.
+use calls::Order;
 use calls::Reply;
 use casetext::Case;
 use laws::ANSWER;
 use laws::low;
 use laws::wide;
-use orders::Order;
 ghost use mathlib.Core.Path.{_≡_};
 ghost use Prim.Native.Nat.{_≤_, _<_, min};
 ghost use Rattle.laws.specs.Sizes.{answerRoom};

@@ -13,7 +13,7 @@ use Rattle.layout.specs.Tables.{Tables, held}
 use Rattle.calls.specs.declared.Reply.{Reply}
 use Rattle.calls.specs.declared.Reply.the-variants.{Done, Refused}
 use Rattle.calls.specs.Outcome.{Outcome, outcome, Result, told}
-use Rattle.orders.specs.declared.Order.{Order}
+use Rattle.calls.specs.declared.Order.{Order}
 use Rattle.orders.specs.Orders.{ordered}
 use Rattle.casetext.specs.declared.Case.{Case}
 use Rattle.cases.specs.declared.Place.{Place}

@@ -7,7 +7,7 @@ use mathlib.Core.Logic.{_⊎_}
 use mathlib.Core.List.{List, [], _∷_, _++_}
 use lib.ListN.{length, getD}
 use Rattle.laws.specs.Members.{In}
-use Rattle.terms.specs.declared.Refusal.the-variants as Refusal
+use Rattle.refusals.specs.declared.Refusal.the-variants as Refusal
 use Rattle.terms.specs.Terms.{numbers, firstItem}
 use Rattle.definitions.specs.Ranks.{Rows, end, row, part}
 use Rattle.laws.specs.Sizes.{variableBase, variableEnd}

@@ -12,8 +12,8 @@ use borrow.Author.Tests.{le-leb, lt-leb, eq-eqb, ne-eqb, le-ltb, lt-ltb}
 use lib.ListN.{length, getD, length-append, List·getD-eq-default}
 use Rattle.laws.specs.Members.{In}
 use Rattle.terms.specs.Terms.{numbers, span, declared, itemsGood, aritiesGood, sigRefusal, refusal, firstItem, argRefusal}
-use Rattle.terms.specs.declared.Refusal.the-variants as Refusal
-use Rattle.terms.specs.Refusals.{rank}
+use Rattle.refusals.specs.declared.Refusal.the-variants as Refusal
+use Rattle.refusals.specs.Refusals.{rank}
 use Rattle.definitions.specs.Ranks.{First, end, row, AppliesIn, Gives, at-end, at-row, past-row, at-part, past-part}
 use Rattle.definitions.specs.Conditions.{Item, Terms, Term, Size, Odd, Symbol, Shape, EndsInside, GoesOn, NoSignature, NoArgument, signatureRows, termRows, argumentRows}
 use Rattle.definitions.specs.Conditions.Terms.{done, more}

@@ -10,9 +10,9 @@ use lib.Dec.{leb, eqb}
 use lib.ListN.{getD}
 use borrow.Author.Tests.{leb-true, eqb-true}
 use Rattle.laws.specs.Choice.{pick}
-use Rattle.terms.specs.declared.Refusal.{Refusal}
-use Rattle.terms.specs.Refusals.{numberOf, order, rank}
-use Rattle.terms.specs.Numbers.{number-some, number-one, every}
+use Rattle.refusals.specs.declared.Refusal.{Refusal}
+use Rattle.refusals.specs.Refusals.{numberOf, order, rank}
+use Rattle.refusals.specs.Numbers.{number-some, number-one, every}
 use Rattle.definitions.specs.Spelt.{taken}
 
 -- of those that apply, P, the first in rank is n; 0 is none

@@ -11,7 +11,7 @@ use lib.Seq.{sets}
 use Rattle.laws.specs.Choice.{pick}
 use Rattle.slots.specs.Slots.{has, removed}
 use Rattle.slots.specs.Sets.{has-beyond}
-use Rattle.terms.specs.declared.Refusal.the-variants as Refusal
+use Rattle.refusals.specs.declared.Refusal.the-variants as Refusal
 use Rattle.keysets.specs.KeySets.{Sets}
 use Rattle.paths.specs.Insert.{St}
 use Rattle.layout.specs.Layout.{usedOf, isUsed}

@@ -1,8 +1,8 @@
 // Delete: a slot of the lent tables is free again (SCOPE.md, 'Store').
 use calls::Reply;
 use layout::lengths_suffice;
+use refusals::Refusal;
 use store::keys_in;
-use terms::Refusal;
 ghost use mathlib.Core.Path.{_≡_};
 ghost use mathlib.Core.List.{[]};
 ghost use Rattle.layout.specs.Tables.{held};

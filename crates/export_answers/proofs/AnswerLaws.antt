@@ -4,7 +4,7 @@ use mathlib.Core.Path.{_≡_, refl, sym, ap, _∙_}
 use mathlib.Core.List.{List}
 use lib.ListN.{length}
 use borrow.Author.Tests.{eq-eqb, ne-eqb}
-use Rattle.terms.specs.Numbers.{number-some}
+use Rattle.refusals.specs.Numbers.{number-some}
 use Rattle.theory.specs.Relations.{Unifiable as Unifies}
 use Rattle.pairs.specs.Pairs.{pairRefusal, Answers}
 use Rattle.pairs.specs.declared.Paired.{Paired}

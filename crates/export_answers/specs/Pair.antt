@@ -3,7 +3,7 @@
 use Prim.Native.Nat.{ℕ}
 use mathlib.Core.Path.{_≡_}
 use mathlib.Core.Logic.{_≢_}
-use Rattle.terms.specs.Refusals.{numberOf}
+use Rattle.refusals.specs.Refusals.{numberOf}
 use Rattle.pairs.specs.declared.Paired.{Paired}
 use Rattle.pairs.specs.declared.Paired.the-variants.{Unifiable, Apart, Refused}
 

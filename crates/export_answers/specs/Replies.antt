@@ -1,7 +1,7 @@
 -- SCOPE.md, 'Numbers of refusal': an answer as it goes to C and Rust: its number, and the numbers that are written
 -- behind `&mut`, only where that number is 0.
 use Prim.Native.Nat.{ℕ}
-use Rattle.terms.specs.Refusals.{numberOf}
+use Rattle.refusals.specs.Refusals.{numberOf}
 use Rattle.calls.specs.declared.Reply.{Reply}
 use Rattle.calls.specs.declared.Reply.the-variants.{Done, Refused}
 

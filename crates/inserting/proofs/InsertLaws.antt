@@ -11,10 +11,10 @@ use lib.ListN.{take, replicate}
 use lib.Seq.{sets}
 use Rattle.laws.specs.Choice.{pick}
 use Rattle.slots.specs.Slots.{has, inserted, others, Next, next-above}
-use Rattle.terms.specs.declared.Refusal.{Refusal}
-use Rattle.terms.specs.declared.Refusal.the-variants as Refusal
-use Rattle.terms.specs.declared.Checked.{Checked}
-use Rattle.terms.specs.Refusals.{checkedNumber}
+use Rattle.refusals.specs.declared.Refusal.{Refusal}
+use Rattle.refusals.specs.declared.Refusal.the-variants as Refusal
+use Rattle.refusals.specs.declared.Checked.{Checked}
+use Rattle.refusals.specs.Refusals.{checkedNumber}
 use Rattle.terms.specs.Terms.{refusal}
 use Rattle.definitions.specs.Answers.{refuse, slot}
 use Rattle.keysets.specs.KeySets.{Sets}

@@ -2,10 +2,10 @@
 use calls::Reply;
 use laws::SLOTS;
 use layout::lengths_suffice;
+use refusals::Checked;
+use refusals::Refusal;
 use store::fits;
 use store::outline_of;
-use terms::Checked;
-use terms::Refusal;
 ghost use mathlib.Core.Path.{_≡_};
 ghost use mathlib.Core.List.{[]};
 ghost use Rattle.layout.specs.Tables.{held};

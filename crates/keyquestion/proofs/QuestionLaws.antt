@@ -6,7 +6,7 @@ use mathlib.Core.Bool.{Bool, true, false}
 use borrow.Author.Tests.{lt-ltb, le-ltb}
 use lib.ListN.{length}
 use Rattle.slots.specs.Slots.{members, listed, listedInto, into-none, into-all}
-use Rattle.terms.specs.declared.Refusal.the-variants as Refusal
+use Rattle.refusals.specs.declared.Refusal.the-variants as Refusal
 use Rattle.keys.specs.Bytes.{isKey}
 use Rattle.keysets.specs.KeySets.{four, met}
 use Rattle.layout.specs.Layout.{signatureOf, usedOf}

@@ -10,9 +10,9 @@ use mathlib.Core.Option.{some}
 use mathlib.Core.List.{List}
 use lib.ListN.{length}
 use Rattle.laws.specs.Members.{In, NoDup}
-use Rattle.terms.specs.declared.Refusal.{Refusal}
-use Rattle.terms.specs.declared.Refusal.the-variants as Refusal
-use Rattle.terms.specs.Refusals.{numberOf}
+use Rattle.refusals.specs.declared.Refusal.{Refusal}
+use Rattle.refusals.specs.declared.Refusal.the-variants as Refusal
+use Rattle.refusals.specs.Refusals.{numberOf}
 use Rattle.keys.specs.Keys.{Key, HasKey}
 use Rattle.theory.specs.Flat.{Item}
 use Rattle.theory.specs.Items.{items, shift}

@@ -12,10 +12,10 @@ use lib.Dec.{ltb, eqb}
 use lib.ListN.{length}
 use borrow.Author.Tests.{ltb-true, ltb-false, eq-eqb, ne-eqb, eqb-true, eqb-false}
 use Rattle.laws.specs.Choice.{pick}
-use Rattle.terms.specs.declared.Refusal.{Refusal}
-use Rattle.terms.specs.declared.Refusal.the-variants as Refusal
-use Rattle.terms.specs.Refusals.{numberOf, rank}
-use Rattle.terms.specs.Numbers.{number-some}
+use Rattle.refusals.specs.declared.Refusal.{Refusal}
+use Rattle.refusals.specs.declared.Refusal.the-variants as Refusal
+use Rattle.refusals.specs.Refusals.{numberOf, rank}
+use Rattle.refusals.specs.Numbers.{number-some}
 use Rattle.terms.specs.Terms.{sigRefusal, refusal}
 use Rattle.keys.specs.Keys.{Key, HasKey}
 use Rattle.keys.specs.Bytes.{isKey}

@@ -10,7 +10,7 @@ use mathlib.Core.List.{List, [], _∷_, _++_}
 use lib.Dec.{ltb, eqb}
 use lib.ListN.{length}
 use Rattle.laws.specs.Choice.{pick}
-use Rattle.terms.specs.declared.Refusal.the-variants as Refusal
+use Rattle.refusals.specs.declared.Refusal.the-variants as Refusal
 use Rattle.terms.specs.Terms.{sigRefusal, refusal}
 use Rattle.keys.specs.Keys.{Place, root, step, Key, key}
 use Rattle.keys.specs.Bytes.{isKey}

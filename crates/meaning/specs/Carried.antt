@@ -12,9 +12,9 @@ use lib.ListN.{length}
 use lib.Seq.{sets}
 use Rattle.laws.specs.Choice.{pick}
 use Rattle.slots.specs.Slots.{members}
-use Rattle.terms.specs.declared.Refusal.{Refusal}
-use Rattle.terms.specs.declared.Refusal.the-variants as Refusal
-use Rattle.terms.specs.Refusals.{numberOf}
+use Rattle.refusals.specs.declared.Refusal.{Refusal}
+use Rattle.refusals.specs.declared.Refusal.the-variants as Refusal
+use Rattle.refusals.specs.Refusals.{numberOf}
 use Rattle.terms.specs.Terms.{sigRefusal, aritiesGood, itemsGood, span, refusal}
 use Rattle.keys.specs.Bytes.{isKey}
 use Rattle.theory.specs.Unify.{Bind, full}

@@ -30,9 +30,9 @@ use borrow.Author.Tests.{eq-eqb, ne-eqb}
 use lib.ListN.{length, take, drop}
 use lib.Seq.{sets}
 use Rattle.laws.specs.Members.{In, NoDup}
-use Rattle.terms.specs.declared.Refusal.{Refusal}
-use Rattle.terms.specs.Refusals.{numberOf, rank}
-use Rattle.terms.specs.Numbers.{number-some}
+use Rattle.refusals.specs.declared.Refusal.{Refusal}
+use Rattle.refusals.specs.Refusals.{numberOf, rank}
+use Rattle.refusals.specs.Numbers.{number-some}
 use Rattle.definitions.specs.Ranks.{First}
 use Rattle.terms.specs.Terms.{arity, sigRefusal, refusal}
 use Rattle.keys.specs.Keys.{HasKey}

@@ -4,10 +4,10 @@ use mathlib.Core.Path.{_≡_, refl}
 use mathlib.Core.List.{List, []}
 use mathlib.Core.Bool.{true, false}
 use lib.ListN.{length}
-use Rattle.terms.specs.declared.Refusal.{Refusal}
-use Rattle.terms.specs.declared.Refusal.the-variants as Refusal
-use Rattle.terms.specs.declared.Checked.{Checked}
-use Rattle.terms.specs.Refusals.{checkedNumber}
+use Rattle.refusals.specs.declared.Refusal.{Refusal}
+use Rattle.refusals.specs.declared.Refusal.the-variants as Refusal
+use Rattle.refusals.specs.declared.Checked.{Checked}
+use Rattle.refusals.specs.Refusals.{checkedNumber}
 use Rattle.terms.specs.Terms.{sigRefusal}
 use Rattle.definitions.specs.Answers.{opened}
 use Rattle.chains.specs.FreeChain.{Freed}

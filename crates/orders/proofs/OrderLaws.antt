@@ -8,7 +8,7 @@ use lib.Seq.{sets}
 use types.Run.{OneOf, miss}
 use denote.Enum.Declared.{tagOf}
 use Rattle.laws.specs.Choice.{pick}
-use Rattle.terms.specs.declared.Refusal.the-variants as Refusal
+use Rattle.refusals.specs.declared.Refusal.the-variants as Refusal
 use Rattle.terms.specs.Terms.{sigRefusal, refusal}
 use Rattle.definitions.specs.Answers.{Answer, refused, refuse, opened, slot, written}
 use Rattle.layout.specs.Layout.{signatureOf, isUsed}
@@ -18,10 +18,10 @@ use Rattle.calls.specs.declared.Reply.the-variants.{Done, Refused}
 use Rattle.calls.specs.Outcome.{Outcome, outcome, Result, guarded, told, refused-told}
 use Rattle.store.specs.Calls.{opening, inserting, insertAnswer, deleting}
 use Rattle.store.specs.Tables.{upsOf, endsOf, roomFor, freeSlot}
-use Rattle.orders.specs.declared.Order.{Order}
-use Rattle.orders.specs.declared.Order.the-variants.{Open, Insert, Delete, WithKey, Retrieve, Solve, Nothing}
+use Rattle.calls.specs.declared.Order.{Order}
+use Rattle.calls.specs.declared.Order.the-variants.{Open, Insert, Delete, WithKey, Retrieve, Solve, Nothing}
 use Rattle.orders.specs.Orders.{asked, ordered}
-use Rattle.orders.proofs.Order.{the-type}
+use Rattle.calls.proofs.Order.{the-type}
 use Rattle.laws.specs.Sizes.{slotCount}
 
 -- the orders that change a table, and none at all

@@ -2,15 +2,15 @@
 -- term or the key, and room the length of the answer buffer.
 use Prim.Native.Nat.{ℕ}
 use mathlib.Core.List.{List}
-use Rattle.terms.specs.declared.Refusal.the-variants as Refusal
+use Rattle.refusals.specs.declared.Refusal.the-variants as Refusal
 use Rattle.definitions.specs.Answers.{refuse}
 use Rattle.layout.specs.Tables.{Tables}
 use Rattle.calls.specs.Outcome.{Result, result}
 use Rattle.store.specs.Calls.{opening, inserting, deleting, asking}
 use Rattle.retrieve.specs.Retrieving.{retrieving}
 use Rattle.retrieve.specs.Solving.{solving}
-use Rattle.orders.specs.declared.Order.{Order}
-use Rattle.orders.specs.declared.Order.the-variants.{Open, Insert, Delete, WithKey, Retrieve, Solve, Nothing}
+use Rattle.calls.specs.declared.Order.{Order}
+use Rattle.calls.specs.declared.Order.the-variants.{Open, Insert, Delete, WithKey, Retrieve, Solve, Nothing}
 
 -- the calls that change no table; anything else is refused as LOG
 abbrev pub asked : Order → Tables → List ℕ → ℕ → Result

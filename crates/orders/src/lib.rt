@@ -1,23 +1,13 @@
 // One call over the lent tables, by its order: what the programs that read their calls as data share.
+use calls::Order;
 use calls::Reply;
+use refusals::Refusal;
 use retrieve::retrieve as list;
-use terms::Refusal;
 ghost use mathlib.Core.Path.{_≡_};
 ghost use lib.ListN.{length};
 ghost use Rattle.layout.specs.Tables.{held};
 ghost use Rattle.calls.specs.Outcome.{outcome, told};
 ghost use Rattle.orders.specs.Orders.{asked, ordered};
-
-// A call and its number: a slot, or the number of a relation. Nothing orders no call.
-pub enum Order {
-    Open,
-    Insert,
-    Delete(usize),
-    WithKey,
-    Retrieve(usize),
-    Solve(usize),
-    Nothing,
-}
 
 // The calls that change no table.
 fn ask(

@@ -9,7 +9,7 @@ use native.Mathlib.Decide.{ℕ-discrete}
 use lib.Dec.{leb}
 use borrow.Author.Tests.{eq-eqb, ne-eqb, le-leb, lt-leb}
 use Rattle.laws.specs.Choice.{pick}
-use Rattle.terms.specs.Refusals.{rank}
+use Rattle.refusals.specs.Refusals.{rank}
 use Rattle.terms.specs.Terms.{sigRefusal, refusal}
 use Rattle.definitions.specs.Ranks.{AppliesIn, part, before-all, rank-order}
 use Rattle.definitions.specs.Conditions.{signatureRows, termRows}

@@ -10,8 +10,8 @@ use lib.Dec.{eqb, leb}
 use borrow.Author.Tests.{eq-eqb, ne-eqb, le-leb, lt-leb}
 use Rattle.laws.specs.Choice.{pick}
 use Rattle.terms.specs.Terms.{sigRefusal, refusal}
-use Rattle.terms.specs.Refusals.{numberOf, rank}
-use Rattle.terms.specs.Numbers.{number-some, number-one}
+use Rattle.refusals.specs.Refusals.{numberOf, rank}
+use Rattle.refusals.specs.Numbers.{number-some, number-one}
 use Rattle.theory.specs.Relations.{Unifiable as Unifies}
 use Rattle.definitions.specs.Ranks.{First, Rows, part, AppliesIn}
 use Rattle.definitions.specs.Conditions.{signatureRows, termRows}

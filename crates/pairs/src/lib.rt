@@ -1,9 +1,9 @@
 // One stored term and one question, without tables: are they unifiable.
-use terms::Checked;
-use terms::Refusal;
+use refusals::Checked;
+use refusals::Refusal;
 ghost use Prim.Native.Nat.{_≤_};
 ghost use mathlib.Core.Path.{_≡_};
-ghost use Rattle.terms.specs.Refusals.{checkedNumber};
+ghost use Rattle.refusals.specs.Refusals.{checkedNumber};
 ghost use Rattle.pairs.specs.Pairs.{firstOf, pairRefusal, Answers};
 
 pub enum Paired {

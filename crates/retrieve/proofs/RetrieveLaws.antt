@@ -8,10 +8,10 @@ use lib.Dec.{eqb}
 use lib.ListN.{length}
 use Rattle.slots.specs.Slots.{members, listed, listedInto, into-none, into-all}
 use Rattle.terms.specs.Terms.{Signed, refusal}
-use Rattle.terms.specs.Refusals.{numberOf, checkedNumber}
-use Rattle.terms.specs.Numbers.{number-some}
-use Rattle.terms.specs.declared.Checked.{Checked}
-use Rattle.terms.specs.declared.Refusal.{Refusal}
+use Rattle.refusals.specs.Refusals.{numberOf, checkedNumber}
+use Rattle.refusals.specs.Numbers.{number-some}
+use Rattle.refusals.specs.declared.Checked.{Checked}
+use Rattle.refusals.specs.declared.Refusal.{Refusal}
 use Rattle.terms.proofs.TermLaws.{good}
 use Rattle.theory.specs.Items.{items, shift}
 use Rattle.theory.specs.CheckedItems.{fine-good}

@@ -12,7 +12,7 @@ use lib.Dec.{ltb}
 use lib.ListN.{length}
 use lib.Seq.{sets, sets-eq}
 use Rattle.laws.specs.Choice.{pick}
-use Rattle.terms.specs.declared.Refusal.the-variants as Refusal
+use Rattle.refusals.specs.declared.Refusal.the-variants as Refusal
 use Rattle.theory.specs.Flat.{Item}
 use Rattle.theory.specs.Unify.{Bind, full}
 use Rattle.theory.specs.Items.{items, shift, Fine}

@@ -4,7 +4,7 @@ use Prim.Native.Nat.{ℕ}
 use mathlib.Core.List.{List}
 use lib.Dec.{eqb}
 use Rattle.laws.specs.Choice.{pick}
-use Rattle.terms.specs.declared.Refusal.the-variants as Refusal
+use Rattle.refusals.specs.declared.Refusal.the-variants as Refusal
 use Rattle.terms.specs.Terms.{refusal}
 use Rattle.definitions.specs.Decisions.{bindings?}
 use Rattle.definitions.specs.Answers.{Answer, refused, refuse, recorded}

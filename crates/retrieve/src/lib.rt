@@ -3,10 +3,10 @@
 use calls::Reply;
 use laws::SLOTS;
 use layout::long_enough;
+use refusals::Checked;
+use refusals::Refusal;
 use slots::SlotSet;
 use solution::Recorded;
-use terms::Checked;
-use terms::Refusal;
 use terms::is_term;
 ghost use Prim.Native.Nat.{_≤_, _<_};
 ghost use mathlib.Core.Path.{_≡_};

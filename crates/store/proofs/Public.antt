@@ -8,11 +8,11 @@ use lib.Dec.{eqb}
 use lib.ListN.{length}
 use lib.Seq.{sets}
 use Rattle.laws.specs.Choice.{pick}
-use Rattle.terms.specs.declared.Refusal.{Refusal}
-use Rattle.terms.specs.declared.Refusal.the-variants as Refusal
-use Rattle.terms.specs.declared.Checked.{Checked}
-use Rattle.terms.specs.Refusals.{numberOf, checkedNumber}
-use Rattle.terms.specs.Numbers.{number-some}
+use Rattle.refusals.specs.declared.Refusal.{Refusal}
+use Rattle.refusals.specs.declared.Refusal.the-variants as Refusal
+use Rattle.refusals.specs.declared.Checked.{Checked}
+use Rattle.refusals.specs.Refusals.{numberOf, checkedNumber}
+use Rattle.refusals.specs.Numbers.{number-some}
 use Rattle.definitions.specs.Answers.{Answer, refused, done, refuse}
 use Rattle.layout.specs.Layout.{longEnough, Long}
 use Rattle.layout.specs.Tables.{Tables, ample}

@@ -19,8 +19,8 @@ use Rattle.log.specs.declared.reader.Taken.{Taken}
 use Rattle.log.specs.Fields.{fieldAt}
 use Rattle.log.specs.Reading.{placeAfter, takenAt}
 use Rattle.log.proofs.Fields.{TakenWhole, taken-whole, past-within}
-use Rattle.orders.specs.declared.Order.{Order}
-use Rattle.orders.specs.declared.Order.the-variants.{Open, Insert, Delete, WithKey, Retrieve, Solve, Nothing}
+use Rattle.calls.specs.declared.Order.{Order}
+use Rattle.calls.specs.declared.Order.the-variants.{Open, Insert, Delete, WithKey, Retrieve, Solve, Nothing}
 use Rattle.tasks.specs.Operations.{Operation, firstOperation, laterOperation, deleteOperation, retrieveOperation, solveOperation, payload, operationIn}
 use Rattle.tasks.specs.Ordered.{fixedPart, InLog, operationOf, Ordered, operationAt, placePast}
 

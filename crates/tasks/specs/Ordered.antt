@@ -10,8 +10,8 @@ use Rattle.laws.specs.Choice.{pick}
 use Rattle.laws.specs.Sizes.{inputLimit}
 use Rattle.log.specs.Fields.{fieldAt}
 use Rattle.log.specs.Reading.{placeAfter}
-use Rattle.orders.specs.declared.Order.{Order}
-use Rattle.orders.specs.declared.Order.the-variants.{Open, Insert, Delete, WithKey, Retrieve, Solve, Nothing}
+use Rattle.calls.specs.declared.Order.{Order}
+use Rattle.calls.specs.declared.Order.the-variants.{Open, Insert, Delete, WithKey, Retrieve, Solve, Nothing}
 use Rattle.tasks.specs.Operations.{Operation, toOpen, toInsert, toDelete, toRetrieve, toSolve, operationIn}
 
 -- THE ORDER OF A FIELD: t is what stands after the fixed part of the payload

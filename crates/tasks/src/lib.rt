@@ -1,9 +1,9 @@
 // What the field at a place of the log orders (SCOPE.md, 'The log program').
+use calls::Order;
 use laws::INPUT;
 use laws::number_at;
 use laws::wide;
 use log::Field;
-use orders::Order;
 ghost use mathlib.Core.Path.{_≡_};
 ghost use mathlib.Core.Bool.{Bool};
 ghost use mathlib.Core.Option.{none};

@@ -12,9 +12,9 @@ use Rattle.laws.specs.Choice.{pick}
 use Rattle.laws.proofs.Lists.{tail-part}
 use mathlib.Core.Bool.{Bool, true, false}
 use lib.Dec.{ltb, leb, eqb}
-use Rattle.terms.specs.declared.Checked as Checked
-use Rattle.terms.specs.declared.Checked.{Checked}
-use Rattle.terms.specs.Refusals.{checkedNumber}
+use Rattle.refusals.specs.declared.Checked as Checked
+use Rattle.refusals.specs.declared.Checked.{Checked}
+use Rattle.refusals.specs.Refusals.{checkedNumber}
 use borrow.Author.Tests.{leb-true, le-leb, lt-leb, ltb-false, eqb-true, eqb-false, eq-eqb, ne-eqb, le-ltb, lt-ltb}
 use lib.Seq.{drop-cons, drop-length, getD-drop}
 use native.Mathlib.Decide.{ℕ-discrete}

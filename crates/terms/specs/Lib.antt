@@ -1,4 +1,2 @@
-pub mod Numbers
 pub mod Places
-pub mod Refusals
 pub mod Terms

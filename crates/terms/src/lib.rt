@@ -3,78 +3,16 @@ use laws::VARIABLE;
 use laws::VARIABLE_END;
 use laws::number_at;
 use laws::wide;
+use refusals::Checked;
+use refusals::Refusal;
 ghost use mathlib.Core.Path.{_≡_};
 ghost use Prim.Native.Nat.{_+_, _-_, _*_, _≤_, _<_, min};
 ghost use lib.Dec.{eqb};
 ghost use lib.ListN.{length, take, drop};
 ghost use Rattle.laws.specs.Choice.{pick};
-ghost use Rattle.terms.specs.Refusals.{numberOf, checkedNumber};
+ghost use Rattle.refusals.specs.Refusals.{checkedNumber};
 ghost use Rattle.terms.specs.Terms.{arity as arityOf, span, declared as isDeclared, itemsGood, aritiesGood};
 ghost use Rattle.terms.specs.Terms.{sigRefusal, refusal};
-
-// Why a call is refused, in the order of SCOPE.md's numbers.
-pub enum Refusal {
-    Table,
-    Signature,
-    Relation,
-    Slot,
-    Size,
-    Odd,
-    Symbol,
-    Shape,
-    Key,
-    Argument,
-    Full,
-    Keys,
-    Nothing,
-    Long,
-    Room,
-    Log,
-}
-
-impl Refusal {
-    // SCOPE.md's number.
-    pub fn number(self) -> u8
-        ensures { λ r. ⌜ r ≡ numberOf self ⌝ }
-    {
-        match self {
-            Refusal::Table => 1,
-            Refusal::Signature => 2,
-            Refusal::Relation => 3,
-            Refusal::Slot => 4,
-            Refusal::Size => 5,
-            Refusal::Odd => 6,
-            Refusal::Symbol => 7,
-            Refusal::Shape => 8,
-            Refusal::Key => 9,
-            Refusal::Argument => 10,
-            Refusal::Full => 11,
-            Refusal::Keys => 12,
-            Refusal::Nothing => 13,
-            Refusal::Long => 14,
-            Refusal::Room => 15,
-            Refusal::Log => 16,
-        }
-    }
-}
-
-// What a check answers.
-pub enum Checked {
-    Good,
-    Refused(Refusal),
-}
-
-impl Checked {
-    // 0, or the number of the refusal.
-    pub fn number(self) -> u8
-        ensures { λ r. ⌜ r ≡ checkedNumber self ⌝ }
-    {
-        match self {
-            Checked::Good => 0,
-            Checked::Refused(why) => why.number(),
-        }
-    }
-}
 
 // The number of arguments of symbol x; none for what is no symbol.
 pub fn arity(sig: &[u8], x: usize) -> usize

@@ -8,15 +8,15 @@ use native.Mathlib.Omega.{arith}
 use borrow.Author.Tests.{ne-eqb}
 use lib.ListN.{length}
 use Rattle.laws.specs.Choice.{pick}
-use Rattle.terms.specs.declared.Refusal.{Refusal}
-use Rattle.terms.specs.Refusals.{numberOf}
-use Rattle.terms.specs.Numbers.{number-some}
+use Rattle.refusals.specs.declared.Refusal.{Refusal}
+use Rattle.refusals.specs.Refusals.{numberOf}
+use Rattle.refusals.specs.Numbers.{number-some}
 use Rattle.layout.specs.Tables.{Tables}
 use Rattle.calls.specs.declared.Reply.{Reply}
 use Rattle.calls.specs.declared.Reply.the-variants.{Done, Refused}
 use Rattle.calls.specs.Outcome.{Outcome, outcome, Result, told}
-use Rattle.orders.specs.declared.Order.{Order}
-use Rattle.orders.specs.declared.Order.the-variants.{Open, Insert, Delete, WithKey, Retrieve, Solve, Nothing}
+use Rattle.calls.specs.declared.Order.{Order}
+use Rattle.calls.specs.declared.Order.the-variants.{Open, Insert, Delete, WithKey, Retrieve, Solve, Nothing}
 use Rattle.orders.specs.Orders.{ordered}
 use Rattle.lines.specs.Lines.{Put}
 use Rattle.tasks.specs.Operations.{payload}

@@ -9,7 +9,7 @@ use mathlib.Core.List.{List}
 use lib.Dec.{eqb}
 use lib.ListN.{length, take}
 use Rattle.laws.specs.Choice.{pick}
-use Rattle.terms.specs.declared.Refusal.the-variants as Refusal
+use Rattle.refusals.specs.declared.Refusal.the-variants as Refusal
 use Rattle.definitions.specs.Answers.{refuse}
 use Rattle.layout.specs.Tables.{Tables}
 use Rattle.calls.specs.Outcome.{Outcome, Result, result, told}

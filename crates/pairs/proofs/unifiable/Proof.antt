@@ -1,7 +1,7 @@
 use mathlib.Core.Path.{sym, ap, _∙_}
 use Rattle.pairs.proofs.PairLaws.{pair-none}
 use Rattle.unify.specs.CheckedTerms.{asked}
-use Rattle.terms.specs.Refusals.{checkedNumber}
+use Rattle.refusals.specs.Refusals.{checkedNumber}
 use borrow.Author.Needs.{needs}
 use Rattle.pairs.proofs.unifiable.Statement.{statement}
 use Rattle.pairs.proofs.unifiable.Tie as tie

@@ -1,7 +1,7 @@
 use mathlib.Core.Path.{sym, ap, _∙_}
-use Rattle.terms.specs.Refusals.{checkedNumber}
-use Rattle.terms.proofs.Checked.number.Statement.{statement}
-use Rattle.terms.proofs.Checked.number.Tie as tie
+use Rattle.refusals.specs.Refusals.{checkedNumber}
+use Rattle.refusals.proofs.Checked.number.Statement.{statement}
+use Rattle.refusals.proofs.Checked.number.Tie as tie
 
 enum-told : tie.Need-enum-told
 enum-told c = c .match .keys1

@@ -1,8 +1,8 @@
 -- Each arm's number is that of its name. With over 16 names the proof is not found by itself: a new name has one line in each half.
 use mathlib.Core.Path.{sym, ap}
-use Rattle.terms.specs.Refusals.{numberOf}
-use Rattle.terms.proofs.Refusal.number.Statement.{statement}
-use Rattle.terms.proofs.Refusal.number.Tie as tie
+use Rattle.refusals.specs.Refusals.{numberOf}
+use Rattle.refusals.proofs.Refusal.number.Statement.{statement}
+use Rattle.refusals.proofs.Refusal.number.Tie as tie
 
 pub number-spec : {M : Type 1} → statement M
 number-spec =
