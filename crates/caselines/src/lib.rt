@@ -9,7 +9,8 @@ ghost use mathlib.Core.Path.{_≡_};
 ghost use Prim.Native.Nat.{_≤_, _<_, min};
 ghost use Rattle.laws.specs.Sizes.{answerRoom};
 ghost use Rattle.lines.specs.Lines.{Put};
-ghost use Rattle.caselines.specs.Said.{orderOf, checksumOf, shortLine, listedLine, argumentLine, writtenBy, answerLine, doneLine, refusalLine, said};
+ghost use Rattle.caselines.specs.Said.{orderOf, checksumOf, shortLine, listedLine, argumentLine, writtenBy};
+ghost use Rattle.caselines.specs.Said.{answerLine, doneLine, refusalLine, said};
 
 // The call that a case's word asks for.
 pub fn order_of(case: Case) -> Order

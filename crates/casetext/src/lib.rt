@@ -6,7 +6,8 @@ ghost use Prim.Native.Nat.{_+_, _≤_, _<_, min};
 ghost use lib.ListN.{length, getD};
 ghost use lib.Dec.{eqb};
 ghost use Rattle.laws.specs.Choice.{pick};
-ghost use Rattle.casetext.specs.CaseText.{wordEnd, pastBlank, nextLine, numberIn, digitOf, hexAt, HexRead, grown, lengthOf, repeating, leftAfter, caseAt, BytesRead};
+ghost use Rattle.casetext.specs.CaseText.{wordEnd, pastBlank, nextLine, numberIn, digitOf, hexAt, HexRead};
+ghost use Rattle.casetext.specs.CaseText.{grown, lengthOf, repeating, leftAfter, caseAt, BytesRead};
 
 // The first letter of the second word, the third word as a number, where it ends, how many bytes the fourth word has,
 // how many calls are left after this one, and the next line.

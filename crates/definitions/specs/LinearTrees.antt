@@ -61,7 +61,8 @@ module _ (sig : List ℕ) (g : Signed sig) where
 
   -- a tree is a variable, or a symbol with its arguments
   abbrev View : ℕ → Args → Type 0
-  View x us = ((isVariable x ≡ true) × (flat (node x us) ≡ vars (x - variableBase))) ⊎ ((isVariable x ≡ false) × (flat (node x us) ≡ sy x ∷ flats us) × (countArgs us ≡ ar x))
+  View x us = ((isVariable x ≡ true) × (flat (node x us) ≡ vars (x - variableBase)))
+      ⊎ ((isVariable x ≡ false) × (flat (node x us) ≡ sy x ∷ flats us) × (countArgs us ≡ ar x))
 
   view : (x : ℕ) (us : Args) → Shaped sig (node x us) → View x us
   unfolding Shaped

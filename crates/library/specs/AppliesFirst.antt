@@ -201,7 +201,9 @@ module _ (st : Store) (h : Sound st) where
 
     -- the rows after those of the question
     abbrev rest : Rows
-    rest = row Refusal.Nothing (NoUnifier st s q) (row Refusal.Long (LongValue st s q) (row Refusal.Room (ShortRecord st s q room) end))
+    rest = row Refusal.Nothing (NoUnifier st s q)
+        (row Refusal.Long (LongValue st s q)
+        (row Refusal.Room (ShortRecord st s q room) end))
 
     module _ (v : List ℕ) (i : IsRecord (st .signature) t q v) where
       unifies : NoUnifier st s q → ⊥

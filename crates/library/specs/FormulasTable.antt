@@ -102,7 +102,10 @@ mutual
 -- the formula at one slot: `v` a variable, `n` no arguments, `a` all arguments open; T, S, F, E whether it is in
 -- Terms, in the sets of the star and of the symbol, in the meet
 abbrev value : Bool → Bool → Bool → Bool → Bool → Bool → Bool → Bool → Bool → Bool
-value v n q t a T S F E = pick v (pick q T S) (pick n (pick t (pick S true F) F) (pick t (pick S true (pick a F E)) (pick a F E)))
+value v n q t a T S F E =
+    pick v (pick q T S)
+    (pick n (pick t (pick S true F) F)
+    (pick t (pick S true (pick a F E)) (pick a F E)))
 
 at-slot : (v n q t a : Bool) (T S F E : Set) (s : ℕ) → pick v (pick q T S) (pick n (starred t S F) (starred t S (pick a F E))) s ≡ value v n q t a (T s) (S s) (F s) (E s)
 at-slot true n true t a T S F E s = refl
@@ -231,7 +234,9 @@ open-agree false tv us vs c e = clash e
 -- whether the meet holds
 module _ (qv tv : Bool) (x : ℕ) (ts : Args) (E : Bool) where
   abbrev Line : Option Tm → Type 0
-  Line o = value (isVariable x) (noArguments ts) qv tv (pick qv (allVariables ts) false) true (isTop o star) (isTop o x) E ≡ agreeAt qv tv (node x ts) o
+  Line o = value (isVariable x) (noArguments ts) qv tv (pick qv (allVariables ts) false)
+      true (isTop o star) (isTop o x) E
+      ≡ agreeAt qv tv (node x ts) o
 
   line-variable : (o : Option Tm) → isVariable x ≡ true → ((y : ℕ) (vs : Args) → o ≡ some (node y vs) → Kind y) → Line o
   unfolding isTop agreeAt asksNothing agree

@@ -1,5 +1,5 @@
-// The slots of a set in their order: the next one, how many there are, and their listing (SCOPE.md, 'Paths and keys' and
-// 'Numbers of refusal').
+// The slots of a set in their order: the next one, how many there are, and their listing (SCOPE.md, 'Paths and keys'
+// and 'Numbers of refusal').
 use laws::low;
 use slots::SlotSet;
 ghost use mathlib.Core.Path.{_≡_};

@@ -122,7 +122,8 @@ module _ (sig p t : List ℕ) where
         whole = sym (first-rest (arity sig) 1 (drop j (items t))) ∙ ap (λ (r : List Item). first (arity sig) 1 (drop j (items t)) ++ r) (sym next)
 
         abbrev Step : ℕ → Type 0
-        Step k = Inv (arity sig) (items p) (items t) (g .binds) (suc k) (va x ∷ drop (i + 1) (items p)) (val (arity sig) (items t) j ++ drop e (items t))
+        Step k = Inv (arity sig) (items p) (items t) (g .binds) (suc k) (va x ∷ drop (i + 1) (items p))
+            (val (arity sig) (items t) j ++ drop e (items t))
 
         term-u : (k : ℕ) → Terms (arity sig) (suc k) (drop j (items t)) → Terms (arity sig) 1 (val (arity sig) (items t) j)
         term-u k h = let q : suc k ≡ 1 + k = omega arith in first-terms (arity sig) 1 k (drop j (items t)) (rw q at h)

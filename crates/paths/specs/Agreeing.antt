@@ -33,7 +33,8 @@ holds-true false h = absurd h
 -- each case of the table: which of the two items is a variable
 module _ (qv tv : Bool) (x y : ℕ) (all : Bool) (All : Type 0) where
   abbrev Table : Type 0
-  Table = (pick (leb variableBase x) (pick (leb variableBase y) true qv) (pick (leb variableBase y) tv (pick (eqb x y) all false)) ≡ true)
+  Table = (pick (leb variableBase x) (pick (leb variableBase y) true qv)
+      (pick (leb variableBase y) tv (pick (eqb x y) all false)) ≡ true)
       ↔ pick (leb variableBase x) (pick qv (Unit {0}) (endOf y ≡ 256)) ((T tv × (endOf y ≡ 256)) ⊎ ((endOf y ≡ endOf x) × All))
 
   both-variables : variableBase ≤ x → variableBase ≤ y → Table

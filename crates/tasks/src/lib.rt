@@ -11,7 +11,8 @@ ghost use Prim.Native.Nat.{ℕ, _≤_, _<_, _-_};
 ghost use lib.ListN.{length, drop};
 ghost use lib.Dec.{eqb};
 ghost use Rattle.laws.specs.Choice.{pick};
-ghost use Rattle.tasks.specs.Operations.{firstOperation, laterOperation, deleteOperation, retrieveOperation, solveOperation, payload};
+ghost use Rattle.tasks.specs.Operations.{firstOperation, laterOperation, deleteOperation, retrieveOperation};
+ghost use Rattle.tasks.specs.Operations.{solveOperation, payload};
 ghost use Rattle.tasks.specs.Ordered.{fixedPart, InLog, operationOf, Ordered, operationAt, placePast};
 
 // An order, where the rest of its payload starts and ends, which is where the next field starts.

@@ -254,7 +254,8 @@ Stops (done a b w) = ⊥
 
 abbrev pub FirstVerdict : List ℕ → Field → Option Operation → Type 0
 FirstVerdict s f none = Faulty 0 f
-FirstVerdict s f (some c) = (Faulty 0 f → ⊥) × (Stops (answered unopened (libraryCall answerRoom c)) ↔ RefusedSignature s f)
+FirstVerdict s f (some c) =
+    (Faulty 0 f → ⊥) × (Stops (answered unopened (libraryCall answerRoom c)) ↔ RefusedSignature s f)
 
 open-stops : (p : List ℕ) → Stops (answered unopened (openWith p)) ↔ (sigRefusal p ≡ 0 → ⊥)
 unfolding answered
