@@ -1,10 +1,10 @@
 // The argument of a term, as a part of the term's own bytes (SCOPE.md, 'Term bytes').
+use checking::check;
+use checking::walk;
 use laws::number_at;
 use refusals::Checked;
 use refusals::Refusal;
 use terms::arity;
-use terms::check;
-use terms::walk;
 ghost use mathlib.Core.Path.{_≡_};
 ghost use Prim.Native.Nat.{_+_, _≤_};
 ghost use lib.ListN.{length, drop};

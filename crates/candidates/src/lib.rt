@@ -100,7 +100,7 @@ fn narrow(
         (four (now (s0 .entry)) (now (s1 .entry)) (now (s2 .entry)) (now (s3 .entry))) (rule .open) (rule .stars)
         (now (items .entry)) (now (ends .entry)) at place (within .words) (r .words) ⌝ }
 {
-    if within.is_empty() {
+    if algebra::is_empty(within) {
         return within;
     }
     let x = items[at];
@@ -136,7 +136,7 @@ fn narrow(
     }
     if rule.stars {
         let star = star_at(link, label, s0, s1, s2, s3, place, within);
-        return deep.or(star);
+        return algebra::or(deep, star);
     }
     deep
 }

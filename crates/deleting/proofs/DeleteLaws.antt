@@ -22,7 +22,7 @@ use Rattle.calls.specs.Outcome.{outcome, told}
 use Rattle.store.specs.Kept.{length-used}
 use Rattle.store.specs.Tables.{indexOf, KeysIn, renewed, deletedAt}
 use Rattle.store.specs.Calls.{deleting}
-use Rattle.store.proofs.Public.{too-short, refuses, answers}
+use Rattle.calls.proofs.Public.{too-short, refuses, answers}
 use Rattle.laws.specs.Sizes.{slotCount}
 
 pub used-is : (u ws : List ℕ) (s : ℕ) (r : Bool) → ws ≡ usedOf u → r ≡ eqb (has ws s) 1 → r ≡ isUsed u s

@@ -119,7 +119,7 @@ pub extern "C" fn azunkefogo_solve(
         (now (fields .entry)) (now (fields .exit)) (now (written .entry)) (now (written .exit)) ⌝ }
 {
     tell_both(
-        retrieve::solve(
+        solving::solve(
             bytes,
             used,
             label,

@@ -22,7 +22,7 @@ pub extern "C" fn azunkefogo_check_signature(sig: &[u8]) -> u32
 pub extern "C" fn azunkefogo_check_term(sig: &[u8], term: &[u8]) -> u32
     ensures { λ r. ⌜ r ≡ refusal (now (sig .entry)) (now (term .entry)) ⌝ }
 {
-    code(terms::check(sig, term).number())
+    code(checking::check(sig, term).number())
 }
 
 // Refusals 5 to 8 and 10 or none: where argument i of a term starts within it, and how long it is.

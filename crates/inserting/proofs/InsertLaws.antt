@@ -26,7 +26,7 @@ use Rattle.calls.specs.declared.Reply.the-variants as Reply
 use Rattle.calls.specs.Outcome.{outcome, told}
 use Rattle.store.specs.Tables.{upsOf, endsOf, Outlined, noNumbers, roomFor, withKeys, leastFrom, freeSlot, renewed, insertedAt}
 use Rattle.store.specs.Calls.{insertAnswer, inserting}
-use Rattle.store.proofs.Public.{too-short, refuses, answers, bad, fine}
+use Rattle.calls.proofs.Public.{too-short, refuses, answers, bad, fine}
 use Rattle.laws.specs.Sizes.{slotCount}
 
 -- the least slot

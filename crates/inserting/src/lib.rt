@@ -45,12 +45,12 @@ pub fn insert(
         return Reply::Refused(Refusal::Table);
     }
     let sig = layout::signature(bytes);
-    let checked = terms::check(sig, t);
+    let checked = checking::check(sig, t);
     if let Checked::Refused(why) = checked {
         return Reply::Refused(why);
     }
     let set = layout::slots_used(used);
-    let free = listing::least(set.complement());
+    let free = listing::least(algebra::complement(set));
     if SLOTS <= free {
         return Reply::Refused(Refusal::Full);
     }

@@ -15,7 +15,7 @@ use Rattle.calls.specs.declared.Reply.the-variants as Reply
 use Rattle.calls.specs.Outcome.{outcome, told}
 use Rattle.store.specs.Tables.{keyNumber, slotsWith}
 use Rattle.store.specs.Calls.{asking}
-use Rattle.store.proofs.Public.{too-short, refuses, answers}
+use Rattle.calls.proofs.Public.{too-short, refuses, answers}
 
 pub ask-short : (T : Tables) (k out : List ℕ) → ample T ≡ false → outcome (Reply.Refused Refusal.Table) T out ≡ told out (asking T k (length out))
 unfolding asking

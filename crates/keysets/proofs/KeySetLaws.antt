@@ -1,18 +1,16 @@
-use Prim.Native.Nat.{ℕ, zero, suc, _+_, _-_, _*_, _/_, _%_, _^_, _≤_, _<_}
+use Prim.Native.Nat.{ℕ, zero, suc, _+_, _-_, _*_, _/_, _%_, _≤_, _<_}
 use mathlib.Core.Path.{_≡_, refl, sym, ap, _∙_}
 use mathlib.Core.List.{List, [], _∷_}
 use mathlib.Core.Bool.{Bool, true, false}
-use lib.ListN.{length, getD, set, replicate}
+use lib.ListN.{getD, replicate}
 use lib.Dec.{eqb}
-use lib.Pow.{pow-lt}
-use native.Mathlib.Nat.{one-mul, mod-eq-of-lt}
-use native.Mathlib.Numerals.{add-one, sub-one}
+use native.Mathlib.Numerals.{sub-one}
 use borrow.Author.Tests.{eq-eqb, ne-eqb, lt-ltb, le-ltb}
 use lib.Bits.{bitAnd}
 use Rattle.slots.specs.Slots.{words8}
 use native.Mathlib.Omega.{arith}
 use Rattle.laws.specs.Choice.{pick}
-use Rattle.keysets.specs.KeySets.{Sets, four, tab, putTab, word, putWord, mark, unmark, on, off, zeros, met}
+use Rattle.keysets.specs.KeySets.{Sets, four, tab, word, zeros, met}
 use Rattle.laws.specs.Sizes.{keyLimit, setKeys}
 
 module _ (a b c d : List ℕ) (k i : ℕ) where
@@ -34,39 +32,6 @@ module _ (a b c d : List ℕ) (k i : ℕ) where
   pub word-3 : k / setKeys ≡ 3 → getD d (k % setKeys * 8 + i) 0 ≡ word (four a b c d) k i
   unfolding word tab
   word-3 h = rw h
-
-module _ (a b c d x : List ℕ) (k s : ℕ) where
-  pub mark-0 : k / setKeys ≡ 0 → x ≡ set a (k % setKeys * 8 + s / 64) (on (getD a (k % setKeys * 8 + s / 64) 0) (s % 64)) → four x b c d ≡ mark (four a b c d) k s
-  unfolding mark putWord putTab word tab
-  mark-0 h e = rw (h, e)
-
-  pub mark-1 : k / setKeys ≡ 1 → x ≡ set b (k % setKeys * 8 + s / 64) (on (getD b (k % setKeys * 8 + s / 64) 0) (s % 64)) → four a x c d ≡ mark (four a b c d) k s
-  unfolding mark putWord putTab word tab
-  mark-1 h e = rw (h, e)
-
-  pub mark-2 : k / setKeys ≡ 2 → x ≡ set c (k % setKeys * 8 + s / 64) (on (getD c (k % setKeys * 8 + s / 64) 0) (s % 64)) → four a b x d ≡ mark (four a b c d) k s
-  unfolding mark putWord putTab word tab
-  mark-2 h e = rw (h, e)
-
-  pub mark-3 : k / setKeys ≡ 3 → x ≡ set d (k % setKeys * 8 + s / 64) (on (getD d (k % setKeys * 8 + s / 64) 0) (s % 64)) → four a b c x ≡ mark (four a b c d) k s
-  unfolding mark putWord putTab word tab
-  mark-3 h e = rw (h, e)
-
-  pub unmark-0 : k / setKeys ≡ 0 → x ≡ set a (k % setKeys * 8 + s / 64) (off (getD a (k % setKeys * 8 + s / 64) 0) (s % 64)) → four x b c d ≡ unmark (four a b c d) k s
-  unfolding unmark putWord putTab word tab
-  unmark-0 h e = rw (h, e)
-
-  pub unmark-1 : k / setKeys ≡ 1 → x ≡ set b (k % setKeys * 8 + s / 64) (off (getD b (k % setKeys * 8 + s / 64) 0) (s % 64)) → four a x c d ≡ unmark (four a b c d) k s
-  unfolding unmark putWord putTab word tab
-  unmark-1 h e = rw (h, e)
-
-  pub unmark-2 : k / setKeys ≡ 2 → x ≡ set c (k % setKeys * 8 + s / 64) (off (getD c (k % setKeys * 8 + s / 64) 0) (s % 64)) → four a b x d ≡ unmark (four a b c d) k s
-  unfolding unmark putWord putTab word tab
-  unmark-2 h e = rw (h, e)
-
-  pub unmark-3 : k / setKeys ≡ 3 → x ≡ set d (k % setKeys * 8 + s / 64) (off (getD d (k % setKeys * 8 + s / 64) 0) (s % 64)) → four a b c x ≡ unmark (four a b c d) k s
-  unfolding unmark putWord putTab word tab
-  unmark-3 h e = rw (h, e)
 
 pub zeros-step : (σ : Sets) (k i : ℕ) → 0 < i → zeros σ k i ≡ pick (eqb (word σ k (i - 1)) 0) (zeros σ k (i - 1)) false
 unfolding zeros

@@ -31,7 +31,7 @@ use Rattle.calls.specs.Outcome.{Outcome, outcome, Result, result, guarded, told
 use Rattle.store.specs.Tables.{upsOf, endsOf, roomFor, openedWith, freeSlot, insertedAt, deletedAt, slotsWith}
 use Rattle.store.specs.Calls.{opening, insertAnswer, inserting, deleting, asking}
 use Rattle.retrieve.specs.Retrieving.{answersOf, retrieveAnswer, retrieving}
-use Rattle.retrieve.specs.Solving.{solveAnswer, solving}
+use Rattle.solving.specs.Solving.{solveAnswer, solving}
 use Rattle.meaning.specs.Runs.{carried, Called}
 use Rattle.laws.specs.Sizes.{slotCount}
 

@@ -22,9 +22,9 @@ use Rattle.layout.specs.Tables.{Tables}
 use Rattle.library.specs.Store.{Store, slotsFrom, holding, inUse, candidates, answers, retrieve, solve, answered}
 use Rattle.library.specs.Store as Abstract
 use Rattle.retrieve.specs.RetrievalMeans.{Indexed, candidates-exact, answers-slots}
-use Rattle.retrieve.specs.Those.{SlotsBy}
+use Rattle.confirming.specs.Those.{SlotsBy}
 use Rattle.retrieve.specs.Retrieving.{candidatesOf, answersOf, retrieveAnswer, retrieving}
-use Rattle.retrieve.specs.Solving.{solveAnswer, solving}
+use Rattle.solving.specs.Solving.{solveAnswer, solving}
 use Rattle.store.specs.TablesHold.{filled, treeIn}
 use Rattle.meaning.specs.Stand.{Stand, treesOf, stand-ample, stand-slots, in-use, Means, question-means}
 use Rattle.meaning.specs.Lists.{members-slots}

@@ -14,7 +14,7 @@ use Rattle.library.specs.Store.{Store, Call, openWith, insert, delete, withKey,
 use Rattle.calls.specs.Outcome.{Outcome, Result, told}
 use Rattle.store.specs.Calls.{opening, inserting, deleting, asking}
 use Rattle.retrieve.specs.Retrieving.{retrieving}
-use Rattle.retrieve.specs.Solving.{solving}
+use Rattle.solving.specs.Solving.{solving}
 
 -- what each call means on the lent tables
 abbrev pub carried : Tables → Call → Result

@@ -18,7 +18,7 @@ use Rattle.calls.specs.Outcome.{outcome, told}
 use Rattle.store.specs.Links.{freed-is}
 use Rattle.store.specs.Tables.{openedWith}
 use Rattle.store.specs.Calls.{opening}
-use Rattle.store.proofs.Public.{too-short, refuses, answers, bad, fine}
+use Rattle.calls.proofs.Public.{too-short, refuses, answers, bad, fine}
 use Rattle.laws.specs.Sizes.{keyLimit, linkLength, setLength}
 
 module _ (T : Tables) (sig : List ℕ) where

@@ -8,7 +8,7 @@ use Rattle.layout.specs.Tables.{Tables}
 use Rattle.calls.specs.Outcome.{Result, result}
 use Rattle.store.specs.Calls.{opening, inserting, deleting, asking}
 use Rattle.retrieve.specs.Retrieving.{retrieving}
-use Rattle.retrieve.specs.Solving.{solving}
+use Rattle.solving.specs.Solving.{solving}
 use Rattle.calls.specs.declared.Order.{Order}
 use Rattle.calls.specs.declared.Order.the-variants.{Open, Insert, Delete, WithKey, Retrieve, Solve, Nothing}
 

@@ -45,7 +45,7 @@ fn ask(
             out,
         ),
         Order::Retrieve(which) => list(bytes, used, label, link, s0, s1, s2, s3, which, term, out),
-        Order::Solve(slot) => retrieve::solve(
+        Order::Solve(slot) => solving::solve(
             bytes,
             used,
             label,

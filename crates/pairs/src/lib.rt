@@ -34,7 +34,7 @@ pub fn check(sig: &[u8], stored: &[u8], question: &[u8]) -> Checked
     if signature.number() != 0 {
         return signature;
     }
-    first(terms::check(sig, stored), terms::check(sig, question))
+    first(checking::check(sig, stored), checking::check(sig, question))
 }
 
 // Whether some substitution makes the stored term and the question the same, their variables apart.
@@ -45,7 +45,7 @@ pub fn unifiable(sig: &[u8], stored: &[u8], question: &[u8]) -> Paired
     if let Checked::Refused(why) = checked {
         return Paired::Refused(why);
     }
-    if unify::unifiable(sig, stored, question) {
+    if unifiable::unifiable(sig, stored, question) {
         return Paired::Unifiable;
     }
     Paired::Apart

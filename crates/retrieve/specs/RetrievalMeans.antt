@@ -31,8 +31,9 @@ use Rattle.candidates.specs.Has.{Same, walk-in}
 use Rattle.layout.specs.Layout.{signatureOf, termOf, usedOf}
 use Rattle.layout.specs.Tables.{Tables}
 use Rattle.layout.proofs.LayoutLaws.{signature-good}
-use Rattle.retrieve.specs.Retrieving.{candidatesOf, confirmsTerm, confirms, answersOf}
-use Rattle.retrieve.specs.Those.{SlotsBy, those-slots, those-are}
+use Rattle.retrieve.specs.Retrieving.{candidatesOf, confirms, answersOf}
+use Rattle.confirming.specs.Confirms.{confirmsTerm}
+use Rattle.confirming.specs.Those.{SlotsBy, those-slots, those-are}
 use Rattle.laws.specs.Sizes.{rootPlace, slotCount}
 
 -- the tables stand for the store st, and each slot in use holds the bytes of its term

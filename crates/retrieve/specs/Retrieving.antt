@@ -2,8 +2,8 @@
 -- candidates, its answers, the refusals in their order. What comes out of it is `told` of this
 -- (calls/specs/Outcome.antt).
 use Prim.Native.Nat.{ℕ}
-use mathlib.Core.Bool.{Bool, false}
-use mathlib.Core.List.{List, [], _∷_}
+use mathlib.Core.Bool.{Bool}
+use mathlib.Core.List.{List}
 use lib.Dec.{ltb, eqb}
 use lib.ListN.{length}
 use Rattle.laws.specs.Choice.{pick}
@@ -13,11 +13,11 @@ use Rattle.terms.specs.Terms.{refusal}
 use Rattle.keysets.specs.KeySets.{four}
 use Rattle.definitions.specs.Candidates.{opens, stars}
 use Rattle.definitions.specs.Trees.{treeOf}
-use Rattle.definitions.specs.Decisions.{stands}
 use Rattle.definitions.specs.Answers.{Answer, refused, refuse, found, fits}
 use Rattle.candidates.specs.Walk.{walk}
 use Rattle.layout.specs.Layout.{signatureOf, termOf, usedOf}
 use Rattle.layout.specs.Tables.{Tables}
+use Rattle.confirming.specs.Confirms.{confirmsTerm, those}
 use Rattle.calls.specs.Outcome.{Result, result, guarded}
 use Rattle.laws.specs.Sizes.{rootPlace}
 
@@ -27,18 +27,9 @@ candidatesOf T r q =
     walk (T .link) (T .label) (four (T .s0) (T .s1) (T .s2) (T .s3)) (opens r) (stars r)
     (treeOf (signatureOf (T .bytes)) q) rootPlace (usedOf (T .used))
 
--- do the bytes t stand in the relation to q; what is no term, as on memory that no opening made, answers nothing
-unfoldable pub confirmsTerm : List ℕ → ℕ → List ℕ → List ℕ → Bool
-confirmsTerm sig r t q = pick (eqb (refusal sig t) 0) (stands sig r t q) false
-
 -- does the term of a slot
 unfoldable pub confirms : Tables → ℕ → List ℕ → ℕ → Bool
 confirms T r q s = confirmsTerm (signatureOf (T .bytes)) r (termOf (T .bytes) s) q
-
--- of a list of slots, in its order, those that pass a test
-unfoldable pub those : (ℕ → Bool) → List ℕ → List ℕ
-those p [] = []
-those p (s ∷ l) = pick (p s) (s ∷ those p l) (those p l)
 
 -- the answers: the candidates that confirmation leaves
 unfoldable pub answersOf : Tables → ℕ → List ℕ → List ℕ

@@ -3,12 +3,9 @@ use mathlib.Core.Path.{_≡_, refl, sym, ap, _∙_}
 use mathlib.Core.List.{List, [], _∷_, map}
 use lib.ListN.{length, getD, set, take, length-map}
 use lib.Seq.{take-all}
-use lib.Bits.{bitOr}
-use lib.Dec.{eqb}
 use native.Mathlib.Omega.{arith}
-use native.Mathlib.Numerals.{add-one}
 use Rattle.laws.proofs.Lists.{fill-turn}
-use Rattle.slots.specs.Slots.{both, words8, noneIn}
+use Rattle.slots.specs.Slots.{both, words8}
 pub use Rattle.slots.specs.Sets.{has-insert-same, has-insert-other, getD-both, has-both, getD-words8, has-either, bit-not}
 
 pub length-both : (us vs : List ℕ) → length us ≡ length vs → length (both us vs) ≡ length us
@@ -28,21 +25,6 @@ words-turn f out i v h l e p = fill-turn out (words8 f) i v (l ∙ sym (length-w
 
 pub words-end : (f : ℕ → ℕ) (out : List ℕ) (i : ℕ) → 8 ≤ i → length out ≡ 8 → take i out ≡ take i (words8 f) → out ≡ words8 f
 words-end f out i h l p = sym (take-all i out (omega arith)) ∙ p ∙ take-all i (words8 f) (omega (arith, length-words8 f))
-
--- the first i words together
-unfoldable pub together : List ℕ → ℕ → ℕ
-together ws zero = 0
-together ws (suc zero) = getD ws 0 0
-together ws (suc (suc i)) = bitOr (together ws (suc i)) (getD ws (suc i) 0)
-
-pub together-turn : (ws : List ℕ) (i v : ℕ) → 0 < i → v ≡ together ws i → bitOr v (getD ws i 0) ≡ together ws (i + 1)
-unfolding together
-together-turn ws zero v h e = absurd (omega arith)
-together-turn ws (suc i) v h e = rw (e, add-one)
-
-pub together-all : (ws : List ℕ) (v i : ℕ) → i ≡ 8 → v ≡ together ws i → eqb v 0 ≡ noneIn ws
-unfolding together noneIn
-together-all ws v i h e = rw (e, h)
 
 -- what owning a set tells of its words
 pub words-8 : (ws : List ℕ) → length (map (λ (v : ℕ). v) ws) ≡ 8 → length ws ≡ 8

@@ -4,7 +4,7 @@ use laws::USED;
 ghost use mathlib.Core.Path.{_≡_};
 ghost use lib.Dec.{eqb};
 ghost use lib.ListN.{replicate};
-ghost use Rattle.slots.specs.Slots.{has, inserted, removed, both, either, others, noneIn};
+ghost use Rattle.slots.specs.Slots.{has, inserted, removed};
 
 pub struct SlotSet {
     pub words: [u64; 8],
@@ -68,55 +68,5 @@ impl SlotSet {
         let w = self.words[k];
         self.words[k] = w ^ (w & (1u64 << (s % 64)));
         self
-    }
-
-    pub fn and(self, other: SlotSet) -> SlotSet
-        ensures { λ r. ⌜ r .words ≡ both (self .words) (other .words) ⌝ }
-    {
-        let mut out = [0u64; Self::WORDS];
-        let mut i: usize = 0;
-        while i < Self::WORDS {
-            out[i] = self.words[i] & other.words[i];
-            i += 1;
-        }
-        SlotSet { words: out }
-    }
-
-    pub fn or(self, other: SlotSet) -> SlotSet
-        ensures { λ r. ⌜ r .words ≡ either (self .words) (other .words) ⌝ }
-    {
-        let mut out = [0u64; Self::WORDS];
-        let mut i: usize = 0;
-        while i < Self::WORDS {
-            out[i] = self.words[i] | other.words[i];
-            i += 1;
-        }
-        SlotSet { words: out }
-    }
-
-    // The slots that are not in the set.
-    pub fn complement(self) -> SlotSet
-        ensures { λ r. ⌜ r .words ≡ others (self .words) ⌝ }
-    {
-        let mut rest = [0u64; Self::WORDS];
-        let mut i: usize = 0;
-        while i < Self::WORDS {
-            rest[i] = !self.words[i];
-            i += 1;
-        }
-        SlotSet { words: rest }
-    }
-
-    // Has the set no slot.
-    pub fn is_empty(self) -> bool
-        ensures { λ r. ⌜ r ≡ noneIn (self .words) ⌝ }
-    {
-        let mut any = self.words[0];
-        let mut i: usize = 1;
-        while i < Self::WORDS {
-            any |= self.words[i];
-            i += 1;
-        }
-        any == 0
     }
 }

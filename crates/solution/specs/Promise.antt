@@ -10,7 +10,7 @@ use Rattle.theory.specs.Unify.{full}
 use Rattle.theory.specs.Relations.{Unifies}
 use Rattle.terms.specs.Terms.{arity}
 use Rattle.definitions.specs.Records.{Unifier, written, recordOf, countOf, Short, one-unifier, one-listing}
-use Rattle.unify.specs.Run.{Given, term, Unified}
+use Rattle.joining.specs.Run.{Given, term, Unified}
 use Rattle.solution.specs.Values.{value, value-full, Sizes}
 use Rattle.solution.specs.Filling.{front}
 use Rattle.solution.specs.RecordFields.{recordBytes}

@@ -8,7 +8,7 @@ use lib.ListN.{length, getD, drop, take, set}
 use Rattle.theory.specs.Subst.{app}
 use Rattle.definitions.specs.Records.{bytes}
 use Rattle.definitions.specs.ReadBack.{length-bytes}
-use Rattle.unify.specs.Run.{term}
+use Rattle.joining.specs.Run.{term}
 use Rattle.solution.specs.Values.{value, value-bound}
 use Rattle.solution.specs.Filling.{front}
 use Rattle.solution.specs.ValueBytes.{termBytes}

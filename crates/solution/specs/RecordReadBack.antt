@@ -14,7 +14,7 @@ use mathlib.Core.Option.{some}
 use Rattle.definitions.specs.Records.{recordOf, IsRecord}
 use Rattle.definitions.specs.Decisions.{record?, record-only}
 use Rattle.definitions.specs.ReadBack.{readFields, Reads, listed-has, read-record, read-count, read-value, read-back}
-use Rattle.unify.specs.Pool.{Asked}
+use Rattle.unifiable.specs.Pool.{Asked}
 use Rattle.solution.specs.Promise.{Promise}
 use Rattle.solution.specs.declared.Recorded.the-variants.{Written}
 use Rattle.laws.specs.Sizes.{valueLimit}

@@ -12,7 +12,7 @@ use Rattle.theory.specs.Subst.{vars, app, Occurs, in-app}
 use Rattle.theory.specs.Unify.{one, one-same, one-other, Bind, _:=_, full, Good, Unbound, unbound, Has, not-both}
 use Rattle.theory.specs.Matcher.{items?}
 use Rattle.definitions.specs.Records.{unless, listedFrom, bytes, fieldBytes, written, recordOf, countOf}
-use Rattle.unify.specs.Run.{Given, Tab, term}
+use Rattle.joining.specs.Run.{Given, Tab, term}
 use Rattle.solution.specs.Values.{value, value-full, Sizes}
 use Rattle.solution.specs.RecordFields.{field, fieldIf, part, fieldsFrom, recordBytes, length-part, part-none}
 use Rattle.laws.specs.Sizes.{valueLimit, variableBase}

@@ -11,7 +11,7 @@ use Rattle.theory.specs.Subst.{vars, app, app-append}
 use Rattle.theory.specs.Items.{item16, items16, number}
 use borrow.Author.Tests.{lt-ltb, le-ltb}
 use Rattle.theory.specs.Nodes.{args}
-use Rattle.unify.specs.Run.{Shape, term}
+use Rattle.joining.specs.Run.{Shape, term}
 use Rattle.definitions.specs.Records.{bytes}
 use Rattle.theory.specs.ItemWalk.{extra, args-turn, args-end, Walk, walk-turn}
 use Rattle.solution.specs.Values.{value, value-zero, value-free, value-bound}

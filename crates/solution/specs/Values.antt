@@ -15,9 +15,9 @@ use Rattle.theory.specs.Order.{FollowingEnds, ends}
 use Rattle.theory.specs.Items.{item16, items16}
 use borrow.Author.Tests.{lt-ltb, le-ltb}
 use Rattle.laws.specs.Choice.{pick}
-use Rattle.unify.specs.Masks.{Named}
+use Rattle.joining.specs.Masks.{Named}
 use Rattle.theory.specs.Nodes.{args}
-use Rattle.unify.specs.Run.{Given, Tab, term, node-named}
+use Rattle.joining.specs.Run.{Given, Tab, term, node-named}
 use Rattle.theory.specs.ItemWalk.{extra, args-turn}
 use Rattle.laws.specs.Sizes.{valueLimit, variableBase}
 use Rattle.terms.specs.Terms.{arity}

@@ -1,15 +1,15 @@
 // The sizes of the values, by rounds; the bytes and the number of the fields.
+use joining::opens;
 use laws::VALUE_ITEMS;
 use laws::VARIABLE;
 use laws::low16;
 use laws::wide;
 use laws::wide16;
-use unify::opens;
 use variables::WrittenVariable;
 ghost use mathlib.Core.Path.{_≡_};
 ghost use Prim.Native.Nat.{ℕ, _≤_, _<_, min};
 ghost use lib.ListN.{length, getD};
-ghost use Rattle.unify.specs.Run.{Given, Shape, term};
+ghost use Rattle.joining.specs.Run.{Given, Shape, term};
 ghost use Rattle.solution.specs.Values.{weigh, size, sizeCut, table, entrySize, Sizes};
 ghost use Rattle.solution.specs.Totals.{bytesIf, totalFrom, present as presence, countFrom};
 ghost use Rattle.laws.specs.Sizes.{valueLimit, writtenEnd};

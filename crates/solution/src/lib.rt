@@ -10,8 +10,8 @@ use writing::put_record;
 ghost use Prim.Native.Nat.{_<_};
 ghost use lib.ListN.{length};
 ghost use Rattle.theory.specs.Items.{items, shift};
-ghost use Rattle.unify.specs.Run.{Given, term};
-ghost use Rattle.unify.specs.Pool.{Asked};
+ghost use Rattle.joining.specs.Run.{Given, term};
+ghost use Rattle.unifiable.specs.Pool.{Asked};
 ghost use Rattle.solution.specs.Promise.{Promise};
 
 // What solving answers: the number of fields and of bytes written, or a refusal.
@@ -53,7 +53,7 @@ pub fn record(sig: &[u8], stored: &[u8], question: &[u8], out: &mut [u8]) -> Rec
         (shift 32 (items (now (question .entry)))) (now (out .entry)) (now (out .exit)) r ⌝ }
 {
     let mut pool = [0u16; 64];
-    let m = unify::load_both(sig, &mut pool, stored, question);
+    let m = unifiable::load_both(sig, &mut pool, stored, question);
     let end = m + question.len() / 2;
     record_pool(sig, &pool[..end], m, out)
 }

@@ -1,14 +1,14 @@
 // The values in bytes, the fields and the record.
+use joining::opens;
 use laws::VARIABLE;
 use laws::low;
 use laws::wide;
 use laws::wide16;
-use unify::opens;
 use variables::WrittenVariable;
 ghost use mathlib.Core.Path.{_≡_};
 ghost use Prim.Native.Nat.{ℕ, _≤_, _<_};
 ghost use lib.ListN.{length, getD};
-ghost use Rattle.unify.specs.Run.{Given, Shape};
+ghost use Rattle.joining.specs.Run.{Given, Shape};
 ghost use Rattle.solution.specs.Values.{value};
 ghost use Rattle.solution.specs.Filling.{Filled};
 ghost use Rattle.solution.specs.ValueBytes.{itemBytes, termBytes, Goes};

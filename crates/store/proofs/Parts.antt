@@ -12,13 +12,17 @@ use Rattle.keys.specs.Keys.{endOf}
 use Rattle.terms.specs.Terms.{numbers, refusal}
 use Rattle.terms.proofs.TermLaws.{length-numbers}
 use Rattle.chains.specs.Chains.{longer}
-use Rattle.layout.specs.Layout.{signatureOf, termOf}
+use Rattle.layout.specs.Layout.{signatureOf, termOf, Long}
 use Rattle.paths.specs.Ups.{upsF}
 use Rattle.paths.specs.Locate.{missing}
-use Rattle.termkeys.specs.Fill.{fill, delFill}
+use Rattle.termkeys.specs.Fill.{Sized, fill, delFill}
 use Rattle.store.specs.Tables.{upsOf, endsOf, Outlined, noNumbers, located, KeysIn, roomFor, withoutKeys, withoutTerm}
 use Rattle.laws.specs.Sizes.{freeHead, keyLimit}
 use Rattle.terms.specs.Terms.{arity}
+
+-- tables that are long enough, for the functions over the keys
+pub sized : (b u : ℕ) (link label s0 s1 s2 s3 : List ℕ) → Long b u (length label) (length link) (length s0) (length s1) (length s2) (length s3) → Sized link label s0 s1 s2 s3
+sized b u link label s0 s1 s2 s3 L = record { links = L .links; labels = L .labels; l0 = L .l0; l1 = L .l1; l2 = L .l2; l3 = L .l3 }
 
 front-all : (l vs : List ℕ) (n : ℕ) → length vs ≡ n → n ≤ length l → take n (sets l 0 vs) ≡ vs
 front-all l vs n e h = let s = sets-eq vs l 0 (omega arith) in rw s (take-at vs (drop (0 + length vs) l) n e)

@@ -71,7 +71,7 @@ pub fn keys_in(bytes: &[u8], link: &[u16], label: &[u32], slot: usize, keys: &mu
 {
     let sig = layout::signature(bytes);
     let t = layout::term(bytes, slot);
-    if !terms::is_term(sig, t) {
+    if !checking::is_term(sig, t) {
         return 0;
     }
     numbers_of(link, label, outline_of(sig, t), keys)

@@ -2,14 +2,14 @@
 use chains::find;
 use chains::relabel;
 use keysets::is_empty;
-use keysets::mark;
-use keysets::unmark;
 use laws::KEYS;
 use laws::KEYS16;
 use laws::ROOT;
 use laws::low16;
 use laws::wide;
 use laws::wide16;
+use marking::mark;
+use marking::unmark;
 ghost use mathlib.Core.Path.{_≡_};
 ghost use Prim.Native.Nat.{_+_, _-_, _*_, _/_, _%_, _≤_, _<_};
 ghost use lib.ListN.{length, getD, set};

@@ -7,7 +7,7 @@ use native.Mathlib.Omega.{arith}
 use lib.ListN.{length, getD}
 use Rattle.unify.specs.declared.Face.{Face}
 use Rattle.unify.specs.declared.Face.the-variants.{Same, Clash, Bind, Merge}
-use Rattle.unify.specs.Run.{term, term-var}
+use Rattle.joining.specs.Run.{term, term-var}
 use Rattle.laws.specs.Sizes.{variableBase}
 
 abbrev pub Faced : List ℕ → ℕ → ℕ → Face → Type 0

@@ -1,11 +1,1 @@
-pub mod Prefix
-pub mod Goal
-pub mod Classes
-pub mod Masks
-pub mod Push
-pub mod Run
 pub mod Face
-pub mod Sums
-pub mod Pool
-pub mod CheckedTerms
-pub mod Arms

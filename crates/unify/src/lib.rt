@@ -1,26 +1,17 @@
 // Unification of two terms, by nodes: a node is an item of `pool`, which holds the terms one after another.
-mod binding;
-mod loading;
-mod merging;
-mod walk;
-
-use binding::bind;
+use joining::bind;
+use joining::merge;
+use joining::pair;
 use laws::VARIABLE;
 use laws::low;
 use laws::wide;
 use laws::wide16;
-pub use loading::load_both;
-use merging::merge;
-use merging::pair;
 use variables::WrittenVariable;
-pub use walk::opens;
 ghost use mathlib.Core.Path.{_≡_};
 ghost use Prim.Native.Nat.{ℕ, _^_, _<_};
 ghost use lib.ListN.{length, getD};
-ghost use Rattle.theory.specs.Relations.{Decided, Unifiable};
-ghost use Rattle.unify.specs.Run.{Given, Shape, Led, Ended};
+ghost use Rattle.joining.specs.Run.{Given, Shape, Led, Ended};
 ghost use Rattle.unify.specs.Face.{Faced};
-ghost use Rattle.unify.specs.Pool.{Asked, Answer};
 ghost use Rattle.laws.specs.Sizes.{writtenEnd};
 
 // Where bindings lead from p.
@@ -133,24 +124,4 @@ pub fn unify(sig: &[u8], pool: &[u16], root: usize) -> Outcome
         }
     }
     Outcome { code: 0, tab: tab }
-}
-
-// The bindings that make the stored term and the question the same, or code 1 or 2.
-fn solve(sig: &[u8], stored: &[u8], question: &[u8]) -> Outcome
-    requires { ⌜ Asked (now sig) (now stored) (now question) ⌝ }
-    ensures { λ r. ⌜ Answer (now (sig .entry)) (now (stored .entry)) (now (question .entry)) (r .code) (r .tab) ⌝ }
-{
-    let mut pool = [0u16; 64];
-    let m = load_both(sig, &mut pool, stored, question);
-    let end = m + question.len() / 2;
-    unify(sig, &pool[..end], m)
-}
-
-// Whether the stored term and the question are unifiable (SCOPE.md, 'The relations themselves').
-pub fn unifiable(sig: &[u8], stored: &[u8], question: &[u8]) -> bool
-    requires { ⌜ Asked (now sig) (now stored) (now question) ⌝ }
-    ensures { λ r. ⌜ Decided r (Unifiable (now (sig .entry)) (now (stored .entry)) (now (question .entry))) ⌝ }
-{
-    let u = solve(sig, stored, question);
-    u.code == 0
 }

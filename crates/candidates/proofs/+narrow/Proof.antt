@@ -20,8 +20,8 @@ use Rattle.keysets.proofs.meet.Reads as meet-reads
 use Rattle.candidates.proofs.star_at.Reads as star-at-reads
 use Rattle.chains.proofs.find.Reads as find-reads
 use Rattle.laws.proofs.wide.Reads as wide-reads
-use Rattle.slots.proofs.SlotSet.is_empty.Reads as is-empty-reads
-use Rattle.slots.proofs.SlotSet.or.Reads as or-reads
+use Rattle.algebra.proofs.is_empty.Reads as is-empty-reads
+use Rattle.algebra.proofs.or.Reads as or-reads
 use Rattle.termkeys.proofs.label_of.Reads as label-of-reads
 use Rattle.termkeys.proofs.place_below.Reads as place-below-reads
 use Rattle.candidates.proofs.+narrow.{statement}

@@ -2,8 +2,8 @@ use native.Mathlib.Omega.{arith}
 use borrow.Author.Tests.{not-true, not-false}
 use mathlib.Core.Path.{refl, sym, _∙_}
 use Rattle.layout.proofs.LayoutLaws.{in-use-small}
-use Rattle.store.proofs.Parts.{none-are}
-use Rattle.store.proofs.Public.{ample-not, ample-is, lengths, sized}
+use Rattle.calls.proofs.Public.{ample-not, ample-is, lengths}
+use Rattle.store.proofs.Parts.{none-are, sized}
 use Rattle.deleting.proofs.DeleteLaws.{used-is, delete-short, delete-none, delete-done}
 use Rattle.deleting.proofs.delete.Statement.{statement}
 use Rattle.deleting.proofs.delete.Tie as tie

@@ -5,7 +5,8 @@ use lib.Seq.{length-take-le}
 use lib.ListN.{length}
 use Rattle.layout.proofs.LayoutLaws.{signature-good}
 use Rattle.terms.proofs.TermLaws.{checked-good}
-use Rattle.store.proofs.Public.{ample-not, ample-is, lengths, sized}
+use Rattle.calls.proofs.Public.{ample-not, ample-is, lengths}
+use Rattle.store.proofs.Parts.{sized}
 use Rattle.inserting.proofs.InsertLaws.{free-slot, insert-short, insert-bad, insert-full, insert-crowded, insert-done}
 use borrow.Author.Needs.{needs}
 use Rattle.inserting.proofs.insert.Statement.{statement}

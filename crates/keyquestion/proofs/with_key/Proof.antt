@@ -1,7 +1,7 @@
 use borrow.Author.Tests.{not-true, not-false}
 use borrow.Author.Needs.{needs}
 use native.Mathlib.Omega.{arith}
-use Rattle.store.proofs.Public.{ample-not, ample-is, lengths}
+use Rattle.calls.proofs.Public.{ample-not, ample-is, lengths}
 use Rattle.keyquestion.proofs.QuestionLaws.{ask-short, ask-bad, ask-room, ask-done}
 use Rattle.keyquestion.proofs.with_key.Statement.{statement}
 use Rattle.keyquestion.proofs.with_key.Tie as tie

@@ -1,6 +1,6 @@
 use native.Mathlib.Omega.{arith}
 use Rattle.terms.proofs.TermLaws.{checked-signed}
-use Rattle.store.proofs.Public.{ample-not, ample-is, lengths}
+use Rattle.calls.proofs.Public.{ample-not, ample-is, lengths}
 use Rattle.opening.proofs.OpenLaws.{open-short, open-bad, open-done}
 use borrow.Author.Needs.{needs}
 use Rattle.opening.proofs.open.Statement.{statement}

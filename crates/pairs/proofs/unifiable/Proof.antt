@@ -1,6 +1,6 @@
 use mathlib.Core.Path.{sym, ap, _∙_}
 use Rattle.pairs.proofs.PairLaws.{pair-none}
-use Rattle.unify.specs.CheckedTerms.{asked}
+use Rattle.unifiable.specs.CheckedTerms.{asked}
 use Rattle.refusals.specs.Refusals.{checkedNumber}
 use borrow.Author.Needs.{needs}
 use Rattle.pairs.proofs.unifiable.Statement.{statement}

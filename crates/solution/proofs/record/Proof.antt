@@ -3,7 +3,7 @@ use mathlib.Core.Path.{sym}
 use native.Mathlib.Omega.{arith}
 use lib.ListN.{length}
 use lib.Seq.{length-take-le}
-use Rattle.unify.specs.Pool.{loaded-cut, ready, term-stored, term-question}
+use Rattle.unifiable.specs.Pool.{loaded-cut, ready, term-stored, term-question}
 use borrow.Author.Needs.{needs}
 use Rattle.solution.proofs.record.Statement.{statement}
 use Rattle.solution.proofs.record.Tie as tie

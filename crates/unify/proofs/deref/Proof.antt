@@ -2,7 +2,7 @@ use Prim.Native.Nat.{ℕ, suc, _-_, _<_}
 use mathlib.Core.Path.{_≡_, refl, ap, _∙_}
 use native.Mathlib.Omega.{arith}
 use lib.ListN.{length, getD}
-use Rattle.unify.specs.Run.{Way, way-more}
+use Rattle.joining.specs.Run.{Way, way-more}
 use Rattle.unify.proofs.deref.Statement.{statement}
 use Rattle.unify.proofs.deref.Tie as tie
 use Rattle.laws.specs.Sizes.{variableBase}

@@ -3,7 +3,7 @@ use mathlib.Core.Path.{_≡_, refl, ap}
 use mathlib.Core.Logic.{inl, inr}
 use native.Mathlib.Omega.{arith}
 use lib.ListN.{getD}
-use Rattle.unify.specs.Run.{term}
+use Rattle.joining.specs.Run.{term}
 use Rattle.unify.specs.Face.{same-var}
 use Rattle.unify.proofs.meet.Statement.{statement}
 use Rattle.unify.proofs.meet.Tie as tie

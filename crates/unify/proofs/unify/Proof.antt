@@ -4,13 +4,13 @@ use Prim.Native.Nat.{ℕ, _+_, _-_, _*_, _/_, _%_, _<_}
 use mathlib.Core.Path.{_≡_, refl, subst}
 use native.Mathlib.Omega.{arith}
 use lib.ListN.{length, getD, length-map}
-use Rattle.unify.specs.Classes.{reps}
+use Rattle.joining.specs.Classes.{reps}
 use Rattle.unify.specs.Face.{Faced}
 use Rattle.unify.specs.declared.Face.{Face}
 use Rattle.unify.specs.declared.Face.the-variants.{Same, Clash, Bind, Merge}
-use Rattle.unify.specs.Run.{Run, Led, run-start, run-end, run-same, run-clash, u-low, x-low, run-occurs, run-bind}
-use Rattle.unify.specs.Arms.{run-merged, merged-falls}
-use Rattle.unify.proofs.UnifyLaws.{zeros-at}
+use Rattle.joining.specs.Run.{Run, Led, run-start, run-end, run-same, run-clash, u-low, x-low, run-occurs, run-bind}
+use Rattle.joining.specs.Arms.{run-merged, merged-falls}
+use Rattle.joining.proofs.LoopLaws.{zeros-at}
 use Rattle.unify.proofs.unify.Statement.{statement}
 use Rattle.unify.proofs.unify.Tie as tie
 

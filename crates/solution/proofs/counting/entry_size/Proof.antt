@@ -5,7 +5,7 @@ use mathlib.Core.Logic.{_≢_}
 use native.Mathlib.Omega.{arith}
 use lib.ListN.{getD}
 use Rattle.solution.specs.Values.{size, sizeCut, table, entry-none, entry-some}
-use Rattle.unify.specs.Run.{term}
+use Rattle.joining.specs.Run.{term}
 use Rattle.solution.proofs.counting.entry_size.Statement.{statement}
 use Rattle.solution.proofs.counting.entry_size.Tie as tie
 

@@ -3,7 +3,7 @@ use mathlib.Core.Path.{_≡_}
 use native.Mathlib.Omega.{arith}
 use lib.ListN.{length, getD, length-set}
 use Rattle.solution.specs.Values.{entrySize}
-use Rattle.unify.proofs.UnifyLaws.{filled}
+use Rattle.joining.proofs.LoopLaws.{filled}
 use Rattle.solution.proofs.counting.round.Statement.{statement}
 use Rattle.solution.proofs.counting.round.Tie as tie
 

@@ -3,7 +3,7 @@ use mathlib.Core.Path.{_≡_}
 use native.Mathlib.Omega.{arith}
 use lib.ListN.{length, getD}
 use Rattle.theory.specs.ItemWalk.{Walk, walk-start, walk-low, walk-turn, args-end}
-use Rattle.unify.specs.Sums.{given-begins}
+use Rattle.joining.specs.Sums.{given-begins}
 use Rattle.solution.specs.Values.{Counted, counted-turn, counted-end}
 use Rattle.solution.proofs.counting.size_of.Statement.{statement}
 use Rattle.solution.proofs.counting.size_of.Tie as tie

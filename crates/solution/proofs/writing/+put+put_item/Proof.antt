@@ -9,7 +9,7 @@ use borrow.Fn.Kinds.{In}
 use borrow.Fn.PlainCycle.{Measures, is, falls, and}
 use Rattle.laws.proofs.Lists.{tail-part}
 use Rattle.theory.specs.ItemWalk.{walk-start, walk-low}
-use Rattle.unify.specs.Sums.{given-begins}
+use Rattle.joining.specs.Sums.{given-begins}
 use Rattle.solution.specs.Filling.{front, front-two}
 use Rattle.solution.specs.ValueBytes.{itemBytes, Putting, putting-start, putting-room, putting-turn, putting-end, goes-inside}
 use Rattle.solution.proofs.SolutionLaws.{tail-front}
@@ -21,7 +21,7 @@ use Rattle.solution.proofs.writing.put_item.Kinds as put-item-kinds
 use Rattle.solution.proofs.writing.+put+put_item.Lts-put_item as put-item-lts
 use Rattle.solution.proofs.writing.bound_to.Reads as bound-to-reads
 use Rattle.laws.proofs.low.Reads as low-reads
-use Rattle.unify.proofs.opens.Reads as opens-reads
+use Rattle.joining.proofs.opens.Reads as opens-reads
 use Rattle.laws.proofs.wide16.Reads as wide16-reads
 use Rattle.solution.proofs.writing.+put+put_item.{statement}
 use Rattle.solution.proofs.writing.+put+put_item.Tie.{close}

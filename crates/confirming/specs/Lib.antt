@@ -1,0 +1,2 @@
+pub mod Confirms
+pub mod Those

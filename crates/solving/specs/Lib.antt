@@ -1,0 +1,2 @@
+pub mod Recording
+pub mod Solving

@@ -1,0 +1,2 @@
+pub mod CheckedTerms
+pub mod Pool
