@@ -1,7 +1,7 @@
 //! Ratio 3: instructions of the library's unifier on pairs, counted by callgrind.
 
 use crate::costly::{search, Pair, SEARCHED};
-use crate::library::unifiable;
+use crate::library::{unifiable, Tables};
 use crate::once::counted_pass;
 use crate::timing::{median, Ratio};
 use std::fs;
@@ -19,20 +19,33 @@ fn read(digits: &str) -> Vec<u8> {
     starts.map(|at| u8::from_str_radix(&digits[at..at + 2], 16).expect("two digits")).collect()
 }
 
+/// One pair by the named call: `unifiable`, or solve on tables that hold the stored term.
+fn ask(call: &str, signature: &[u8], stored: &[u8], question: &[u8]) {
+    if call == "unifiable" {
+        return counted_pass(&mut || {
+            std::hint::black_box(unifiable(signature, stored, question));
+        });
+    }
+    let mut tables = Tables::open(signature);
+    let slot = tables.insert(stored).expect("a term");
+    let out = &mut [0; 32_768];
+    counted_pass(&mut || {
+        std::hint::black_box(tables.solve(slot, question, out).is_ok());
+    });
+}
+
 /// The pass that callgrind watches: each pair of the file once.
-pub fn solve_all(file: &str) {
+pub fn ask_all(call: &str, file: &str) {
     let lines = fs::read_to_string(file).expect("a file of pairs");
     for line in lines.lines() {
         let fields: Vec<Vec<u8>> = line.split(' ').map(read).collect();
         let [signature, stored, question] = fields.as_slice() else { panic!("three fields") };
-        counted_pass(&mut || {
-            std::hint::black_box(unifiable(signature, stored, question));
-        });
+        ask(call, signature, stored, question);
     }
 }
 
 /// The instructions for each pair within the named function; none if valgrind is not there.
-fn counts(pairs: &[Pair], within: &str) -> Option<Vec<f64>> {
+fn counts(pairs: &[Pair], call: &str, within: &str) -> Option<Vec<f64>> {
     let line = |pair: &Pair| {
         [&pair.signature, &pair.stored, &pair.question].map(|bytes| written(bytes)).join(" ") + "\n"
     };
@@ -45,7 +58,7 @@ fn counts(pairs: &[Pair], within: &str) -> Option<Vec<f64>> {
         .arg("--dump-after=counted_pass")
         .arg(format!("--callgrind-out-file={COUNTS}"))
         .arg(program)
-        .args(["pairs", PAIRS])
+        .args(["pairs", call, PAIRS])
         .stderr(Stdio::null())
         .status();
     if !status.is_ok_and(|status| status.success()) {
@@ -58,8 +71,8 @@ fn counts(pairs: &[Pair], within: &str) -> Option<Vec<f64>> {
 }
 
 /// One ratio of the most costly pair to the median pair.
-fn ratio(name: &str, pairs: &[Pair], kept: usize, within: &str) -> Option<Ratio> {
-    let counts = counts(pairs, within)?;
+fn ratio(name: &str, pairs: &[Pair], kept: usize, call: &str, within: &str) -> Option<Ratio> {
+    let counts = counts(pairs, call, within)?;
     let (worst, sample) = counts.split_at(kept);
     if median(sample) == 0.0 {
         println!("{name} skipped: {within} is no function of its own in this build");
@@ -79,15 +92,16 @@ fn ratio(name: &str, pairs: &[Pair], kept: usize, within: &str) -> Option<Ratio>
     Some(ratio)
 }
 
-/// Ratio 3 for the whole call of the solver, and for the unifier in it alone.
+/// Ratio 3 for the whole call of `unifiable`, and for the unifier alone: in that call the compiler leaves no function of
+/// it, in solve it does.
 pub fn costliest() -> Vec<Ratio> {
     let (worst, sample) = search();
     println!("searched {SEARCHED} pairs for the most costly");
     let kept = worst.len();
     let pairs: Vec<Pair> = worst.into_iter().chain(sample).collect();
     let ratios = [
-        ratio("costliest-pair", &pairs, kept, "counted_pass"),
-        ratio("costliest-pair/unifier", &pairs, kept, "unify::unify"),
+        ratio("costliest-pair", &pairs, kept, "unifiable", "counted_pass"),
+        ratio("costliest-pair/unifier", &pairs, kept, "solve", "unify::unify"),
     ];
     if ratios[0].is_none() {
         println!("costliest-pair skipped: valgrind is not on this machine");

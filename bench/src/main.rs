@@ -32,7 +32,7 @@ fn print(ratios: &[timing::Ratio]) {
 fn main() {
     let arguments: Vec<String> = std::env::args().skip(1).collect();
     match arguments.as_slice() {
-        [mode, file] if mode == "pairs" => return counting::solve_all(file),
+        [mode, call, file] if mode == "pairs" => return counting::ask_all(call, file),
         [mode] if mode == "costliest" => return print(&counting::costliest()),
         _ => (),
     }
