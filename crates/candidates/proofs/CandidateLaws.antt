@@ -19,7 +19,7 @@ use Rattle.chains.specs.Chains.{find}
 use Rattle.keysets.specs.KeySets.{Sets, met}
 use Rattle.paths.specs.Rep.{lab}
 use Rattle.definitions.specs.Candidates.{opens, stars}
-use Rattle.definitions.specs.Trees.{firsts, others, forest, top, treeOf}
+use Rattle.definitions.specs.Trees.{firsts, argumentsAfter, forest, top, treeOf}
 use Rattle.candidates.specs.Ends.{EndsFrom, Ended}
 use Rattle.candidates.specs.Forests.{others-one, forest-next, forest-top, kids-done, kids-turn}
 use Rattle.candidates.specs.Narrow.{Narrowed}
@@ -34,25 +34,25 @@ ends-turn ends n i v h p a b j l m = go (ℕ-discrete j i)
     go (yes e) = rw (e, getD-set-same ends i v 0 h) (a, b)
     go (no e) = rw (getD-set-other ends i j v 0 e) (p j (omega arith) m)
 
-pub ended-turn : (sig items ends : List ℕ) (i v : ℕ) → i < length ends → Ended (i + 1) sig items ends → forest sig (drop v items) ≡ others 1 (forest sig (drop i items)) → Ended i sig items (set ends i v)
+pub ended-turn : (sig items ends : List ℕ) (i v : ℕ) → i < length ends → Ended (i + 1) sig items ends → forest sig (drop v items) ≡ argumentsAfter 1 (forest sig (drop i items)) → Ended i sig items (set ends i v)
 ended-turn sig items ends i v h p q j l m = go (ℕ-discrete j i)
   where
-    go : Dec (j ≡ i) → forest sig (drop (getD (set ends i v) j 0) items) ≡ others 1 (forest sig (drop j items))
+    go : Dec (j ≡ i) → forest sig (drop (getD (set ends i v) j 0) items) ≡ argumentsAfter 1 (forest sig (drop j items))
     go (yes e) = rw (e, getD-set-same ends i v 0 h) q
     go (no e) = rw (getD-set-other ends i j v 0 e) (p j (omega arith) m)
 
 -- over the arguments of an item, a of them to come
-pub after-start : (sig items : List ℕ) (i a : ℕ) → i < length items → a ≡ arity sig (getD items i 0) → others a (forest sig (drop (i + 1) items)) ≡ others 1 (forest sig (drop i items))
+pub after-start : (sig items : List ℕ) (i a : ℕ) → i < length items → a ≡ arity sig (getD items i 0) → argumentsAfter a (forest sig (drop (i + 1) items)) ≡ argumentsAfter 1 (forest sig (drop i items))
 after-start sig items i a h e = rw e (sym (forest-next sig items i h))
 
-pub after-turn : (sig items ends : List ℕ) (from a e w : ℕ) (r : Args) → 0 < a → from ≤ e → e < length items → Ended from sig items ends → w ≡ getD ends e 0 → others a (forest sig (drop e items)) ≡ r
-    → others (a - 1) (forest sig (drop w items)) ≡ r
+pub after-turn : (sig items ends : List ℕ) (from a e w : ℕ) (r : Args) → 0 < a → from ≤ e → e < length items → Ended from sig items ends → w ≡ getD ends e 0 → argumentsAfter a (forest sig (drop e items)) ≡ r
+    → argumentsAfter (a - 1) (forest sig (drop w items)) ≡ r
 after-turn sig items ends from zero e w r p l h d q z = absurd (omega arith)
 after-turn sig items ends from (suc a) e w r p l h d q z =
     rw (sub-one, q, d e l h) (sym (others-one a (forest sig (drop e items))) ∙ z)
 
-pub after-done : (sig items : List ℕ) (a e : ℕ) (r : Args) → a ≡ 0 → others a (forest sig (drop e items)) ≡ r → forest sig (drop e items) ≡ r
-unfolding others
+pub after-done : (sig items : List ℕ) (a e : ℕ) (r : Args) → a ≡ 0 → argumentsAfter a (forest sig (drop e items)) ≡ r → forest sig (drop e items) ≡ r
+unfolding argumentsAfter
 after-done sig items a e r p z = rw p at z
 
 -- the rule of a relation, by its number
@@ -107,7 +107,7 @@ module _ (link label : List ℕ) (σ : Sets) where
     -- where the loop over the arguments stands: the walk over those to come is the walk over all
     abbrev pub Kids : (items ends : List ℕ) (at x next₀ : ℕ) (deep₀ : List ℕ) (child end next : ℕ) (deep : List ℕ) → Type 0
     Kids items ends at x next₀ deep₀ child end next deep = (sig : List ℕ) → Ended 0 sig items ends
-        → (j : ℕ) × (others j (forest sig (drop child items)) ≡ forest sig (drop end items))
+        → (j : ℕ) × (argumentsAfter j (forest sig (drop child items)) ≡ forest sig (drop end items))
         × (walkAll link label σ qv tv (firsts j (forest sig (drop child items))) next deep ≡ walkAll link label σ qv tv (firsts (arity sig x) (forest sig (drop (at + 1) items))) next₀ deep₀)
 
     pub kids-start : (items ends : List ℕ) (at next₀ end : ℕ) (deep₀ : List ℕ) → at < length items → end ≡ getD ends at 0 → Kids items ends at (getD items at 0) next₀ deep₀ (at + 1) end next₀ deep₀

@@ -74,11 +74,11 @@ either-has us vs s l = ((λ z. to (ℕ-discrete (has us s) 1) z), ⊎-elim (λ z
     to (no z) h = inr (omega (arith, e, h, has-lt us s, has-lt vs s, z))
 
 -- ws is the set of the slots of which W holds
-abbrev pub Same : List ℕ → (ℕ → Type 0) → Type 0
-Same ws W = (s : ℕ) → s < slotCount → (has ws s ≡ 1) ↔ W s
+abbrev pub SlotsOf : List ℕ → (ℕ → Type 0) → Type 0
+SlotsOf ws W = (s : ℕ) → s < slotCount → (has ws s ≡ 1) ↔ W s
 
 module _ (link label : List ℕ) (σ : Sets) (qv tv : Bool) where
-  having-has : (n e : ℕ) (ws : List ℕ) (W : ℕ → Type 0) → Same ws W → Same (having link label σ n e ws) (λ s. W s × At? qv tv link label (mem σ) n e s)
+  having-has : (n e : ℕ) (ws : List ℕ) (W : ℕ → Type 0) → SlotsOf ws W → SlotsOf (having link label σ n e ws) (λ s. W s × At? qv tv link label (mem σ) n e s)
   having-has n e ws W h s l = let m = met-has σ (find link label (lab n e)) ws s l in
       ((λ z. let g = m .0 z in (h s l .0 (g .0), (g .1, g .2))), (λ z. m .1 (h s l .1 (z .0), z .1 .0, z .1 .1)))
 
@@ -86,7 +86,7 @@ module _ (link label : List ℕ) (σ : Sets) (qv tv : Bool) where
     unfolding walk walkT
 
     -- slot s is in what the walk leaves exactly if the walk through the tables keeps it
-    pub walk-has : (q : Tm) (n : ℕ) (ws : List ℕ) (W : ℕ → Type 0) → Same ws W → Same (walk link label σ qv tv q n ws) (walkT qv tv link label (mem σ) q n W)
+    pub walk-has : (q : Tm) (n : ℕ) (ws : List ℕ) (W : ℕ → Type 0) → SlotsOf ws W → SlotsOf (walk link label σ qv tv q n ws) (walkT qv tv link label (mem σ) q n W)
     walk-has (node x us) n ws W h s l =
         go (leb variableBase x) refl qv tv (h s l) (having-has n 256 ws W h s l)
         (λ z. rw z (walkAll-has us (find link label (lab n x) * 8) (having link label σ n x ws) (λ u. W u × At? qv tv link label (mem σ) n x u) (having-has n x ws W h) s l))
@@ -111,7 +111,7 @@ module _ (link label : List ℕ) (σ : Sets) (qv tv : Bool) where
             ((λ z. ⊎-elim (λ y. inr (g .0 y)) (λ y. let k = v .0 y in inl (tt, k .0, k .1)) (either-has A B s l .0 z)), ⊎-elim (λ y. either-has A B s l .1 (inr (v .1 (y .1, y .2)))) (λ y. either-has A B s l .1 (inl (g .1 y))))
         go false e c false w v r = let g = r (end-symbol x (leb-false variableBase x e)) in ((λ z. inr (g .0 z)), ⊎-elim (λ y. absurd (y .0)) (λ y. g .1 y))
 
-    pub walkAll-has : (us : Args) (m : ℕ) (ws : List ℕ) (W : ℕ → Type 0) → Same ws W → Same (walkAll link label σ qv tv us m ws) (walkA qv tv link label (mem σ) us m W)
+    pub walkAll-has : (us : Args) (m : ℕ) (ws : List ℕ) (W : ℕ → Type 0) → SlotsOf ws W → SlotsOf (walkAll link label σ qv tv us m ws) (walkA qv tv link label (mem σ) us m W)
     walkAll-has nil m ws W h s l = h s l
     walkAll-has (cons u us) m ws W h s l = walkAll-has us (suc m) (walk link label σ qv tv u m ws) (λ s. walkT qv tv link label (mem σ) u m W s) (λ i k. walk-has u m ws W h i k) s l
 

@@ -16,7 +16,7 @@ ghost use Prim.Native.Nat.{ℕ, _+_, _-_, _*_, _/_, _≤_, _<_};
 ghost use lib.ListN.{length, getD, drop};
 ghost use Rattle.keysets.specs.KeySets.{four};
 ghost use Rattle.definitions.specs.Candidates.{opens, stars as starsOf};
-ghost use Rattle.definitions.specs.Trees.{forest, others, top, treeOf};
+ghost use Rattle.definitions.specs.Trees.{forest, argumentsAfter, top, treeOf};
 ghost use Rattle.termkeys.specs.Fill.{Sized};
 ghost use Rattle.candidates.specs.Ends.{EndsFrom, Ended};
 ghost use Rattle.candidates.specs.Narrow.{Narrowed};
@@ -147,7 +147,7 @@ fn end_after(sig: &[u8], items: &[u16], ends: &[u8; 32], i: usize) -> usize
         × EndsFrom (i + 1) (length (now items)) (now ends) × Ended (i + 1) (now sig) (now items) (now ends) ⌝ }
     ensures { λ r. ⌜ (i < r) × (r ≤ length (now (items .entry)))
         ×
-        (forest (now (sig .entry)) (drop r (now (items .entry))) ≡ others 1
+        (forest (now (sig .entry)) (drop r (now (items .entry))) ≡ argumentsAfter 1
         (forest (now (sig .entry)) (drop i (now (items .entry))))) ⌝ }
 {
     let mut e = i + 1;

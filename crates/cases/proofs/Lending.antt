@@ -18,7 +18,7 @@ use Rattle.orders.specs.Orders.{ordered}
 use Rattle.casetext.specs.declared.Case.{Case}
 use Rattle.cases.specs.declared.Place.{Place}
 use Rattle.caselines.specs.Said.{orderOf}
-use Rattle.cases.specs.Lent.{lentLength, outcomeBack, caseOutcome, roomAfter, placeAfter}
+use Rattle.cases.specs.Lent.{lentLength, outcomeBack, caseOutcome, roomAfter, caseAfter}
 
 pub cut-other : (short table n : ℕ) → (table ≡ short → ⊥) → n ≡ lentLength short table n
 cut-other short table n h = rw (ne-eqb table short h) refl
@@ -33,12 +33,12 @@ pub room-set : (case : Case) (room r : ℕ) → case .word ≡ 98 → r ≡ min 
 room-set case room r h e = rw h e
 
 pub place-again : (case : Case) (place : Place) → 0 < case .left
-    → _≡_ {A = Place} (record { at = place .at; round = place .round + 1; room = place .room; short = place .short }) (placeAfter case place)
+    → _≡_ {A = Place} (record { at = place .at; round = place .round + 1; room = place .room; short = place .short }) (caseAfter case place)
 place-again case place h = rw (lt-ltb 0 (case .left) h) refl
 
 pub place-next : (case : Case) (place : Place) (room short : ℕ) → case .left ≤ 0 → room ≡ roomAfter case (place .room)
     → short ≡ pick (eqb (case .word) 116) (case .number) (place .short)
-    → _≡_ {A = Place} (record { at = case .next; round = 0; room = room; short = short }) (placeAfter case place)
+    → _≡_ {A = Place} (record { at = case .next; round = 0; room = room; short = short }) (caseAfter case place)
 place-next case place room short h e f = rw (le-ltb 0 (case .left) h, sym e, sym f) refl
 
 pub short-set : (word n short : ℕ) → word ≡ 116 → n ≡ pick (eqb word 116) n short

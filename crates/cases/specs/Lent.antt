@@ -57,8 +57,8 @@ abbrev pub roomAfter : Case → ℕ → ℕ
 roomAfter case room = pick (eqb (case .word) 98) (min (case .number) answerRoom) room
 
 -- the same line where calls are left, or else the next; `table` says which table is too short from then on
-abbrev pub placeAfter : Case → Place → Place
-placeAfter case place =
+abbrev pub caseAfter : Case → Place → Place
+caseAfter case place =
     pick (ltb 0 (case .left))
     (record { at = place .at; round = place .round + 1; room = place .room; short = place .short })
     (record {

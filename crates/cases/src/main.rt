@@ -26,7 +26,7 @@ ghost use lib.ListN.{length};
 ghost use Rattle.laws.specs.Sizes.{answerRoom};
 ghost use Rattle.layout.specs.Tables.{held};
 ghost use Rattle.calls.specs.Outcome.{outcome};
-ghost use Rattle.cases.specs.Lent.{lentLength, caseOutcome, roomAfter, placeAfter};
+ghost use Rattle.cases.specs.Lent.{lentLength, caseOutcome, roomAfter, caseAfter};
 
 // The line, how many calls of its case are done, the length of the answer buffer, and the table that is lent too short.
 struct Place {
@@ -146,7 +146,7 @@ fn room_after(case: Case, room: usize) -> usize
 // After a call: the same line where more calls are left, or else the next one.
 fn place_after(case: Case, place: Place) -> Place
     requires { ⌜ (place .at < case .next) × (case .left + place .round < 16777216) × (place .room ≤ answerRoom) ⌝ }
-    ensures { λ r. ⌜ (r ≡ placeAfter case place) × (r .round < 16777216) × (r .room ≤ answerRoom)
+    ensures { λ r. ⌜ (r ≡ caseAfter case place) × (r .round < 16777216) × (r .room ≤ answerRoom)
         × (place .at * 16777216 + place .round < r .at * 16777216 + r .round) ⌝ }
 {
     if 0 < case.left {

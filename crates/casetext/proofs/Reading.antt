@@ -12,7 +12,7 @@ use lib.ListN.{length, take, drop, getD, set, drop-of-length-le, length-set, Lis
 use lib.Seq.{drop-cons, getD-set-same, getD-set-other}
 use lib.Dec.{eqb, ltb, leb}
 use Rattle.laws.specs.Choice.{pick}
-use Rattle.casetext.specs.CaseText.{wordLength, wordEnd, pastBlank, lineLength, nextLine, numberFrom, numberIn, digitOf, hexAt, HexRead, grown, lengthOf, repeating, leftAfter, secondAt, thirdAt, thirdEnd, fourthAt, fourthEnd, wordAt, caseAt, BytesRead}
+use Rattle.casetext.specs.CaseText.{wordLength, wordEnd, pastBlank, lineLength, nextLine, decimalFrom, numberIn, digitOf, hexAt, HexRead, grown, lengthOf, repeating, leftAfter, secondAt, thirdAt, thirdEnd, fourthAt, fourthEnd, wordAt, caseAt, BytesRead}
 use Rattle.casetext.specs.declared.Case.{Case}
 
 -- the end of a word: at its byte, one byte on, at the text's end
@@ -55,14 +55,14 @@ pub blank-over : (text : List ℕ) (at : ℕ) → length text ≤ at → at ≡ 
 blank-over text at h = rw (sym (byte-over text at h)) refl
 
 -- one digit more of a number
-pub number-turn : (text : List ℕ) (n i to : ℕ) → i < to → to ≤ length text → numberFrom n (take (to - i) (drop i text)) ≡ numberFrom (n % 1000000 * 10 + getD text i 0 % 16) (take (to - (i + 1)) (drop (i + 1) text))
-unfolding numberFrom
+pub number-turn : (text : List ℕ) (n i to : ℕ) → i < to → to ≤ length text → decimalFrom n (take (to - i) (drop i text)) ≡ decimalFrom (n % 1000000 * 10 + getD text i 0 % 16) (take (to - (i + 1)) (drop (i + 1) text))
+unfolding decimalFrom
 number-turn text n i to h g =
     let e : to - i ≡ suc (to - suc i) = omega arith in
     rw (e, drop-cons text i 0 (omega arith), add-one i) refl
 
-pub number-end : (text : List ℕ) (n i to : ℕ) → to ≤ i → numberFrom n (take (to - i) (drop i text)) ≡ n
-unfolding numberFrom
+pub number-end : (text : List ℕ) (n i to : ℕ) → to ≤ i → decimalFrom n (take (to - i) (drop i text)) ≡ n
+unfolding decimalFrom
 number-end text n i to h = let e : to - i ≡ 0 = omega arith in rw e refl
 
 pub digit-low : (b x : ℕ) → x ≡ b → x < 58 → x % 16 ≡ digitOf b

@@ -33,12 +33,12 @@ abbrev pub nextLine : List ℕ → ℕ → ℕ
 nextLine text at = at + lineLength (drop at text)
 
 -- a number, and the digits after it; of the number before a digit the last six digits count
-unfoldable pub numberFrom : ℕ → List ℕ → ℕ
-numberFrom n [] = n
-numberFrom n (b ∷ r) = numberFrom (n % 1000000 * 10 + b % 16) r
+unfoldable pub decimalFrom : ℕ → List ℕ → ℕ
+decimalFrom n [] = n
+decimalFrom n (b ∷ r) = decimalFrom (n % 1000000 * 10 + b % 16) r
 
 abbrev pub numberIn : List ℕ → ℕ → ℕ → ℕ
-numberIn text from to = numberFrom 0 (take (to - from) (drop from text))
+numberIn text from to = decimalFrom 0 (take (to - from) (drop from text))
 
 -- the value of a hex digit
 abbrev pub digitOf : ℕ → ℕ

@@ -14,16 +14,17 @@ use Rattle.laws.specs.Sizes.{variableBase, variableEnd}
 use Rattle.terms.specs.Terms.{arity}
 
 -- 'a value below n is that symbol; 0x8000 + v with v from 0 to 31 is variable v; nothing else is an item'
-abbrev pub Item : List ℕ → ℕ → Type 0
-Item sig x = (x < length sig) ⊎ ((variableBase ≤ x) × (x < variableEnd))
+abbrev pub IsItem : List ℕ → ℕ → Type 0
+IsItem sig x = (x < length sig) ⊎ ((variableBase ≤ x) × (x < variableEnd))
 
 -- k terms in a row: the first is one item and the terms of its arguments; a variable has none
-pub data Terms (sig : List ℕ) : ℕ → List ℕ → Type 0 where
-  done : Terms sig 0 []
-  more : {k x : ℕ} {l m : List ℕ} → Terms sig (arity sig x) l → Terms sig k m → Terms sig (suc k) (x ∷ (l ++ m))
+pub data TermsInRow (sig : List ℕ) : ℕ → List ℕ → Type 0 where
+  done : TermsInRow sig 0 []
+  more : {k x : ℕ} {l m : List ℕ} → TermsInRow sig (arity sig x) l → TermsInRow sig k m
+      → TermsInRow sig (suc k) (x ∷ (l ++ m))
 
 abbrev pub Term : List ℕ → List ℕ → Type 0
-Term sig l = Terms sig 1 l
+Term sig l = TermsInRow sig 1 l
 
 -- SIZE: over 64 bytes
 abbrev pub Size : List ℕ → Type 0
@@ -35,7 +36,7 @@ Odd t = (length t ≡ 0) ⊎ (length t % 2 ≡ 1)
 
 -- SYMBOL: some item is neither a declared symbol nor a variable
 abbrev pub Symbol : List ℕ → List ℕ → Type 0
-Symbol sig t = (x : ℕ) × In x (numbers t) × (Item sig x → ⊥)
+Symbol sig t = (x : ℕ) × In x (numbers t) × (IsItem sig x → ⊥)
 
 -- the items end inside a term: with more items they are one
 abbrev pub EndsInside : List ℕ → List ℕ → Type 0

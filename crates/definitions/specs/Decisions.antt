@@ -13,7 +13,7 @@ use Rattle.theory.specs.Unify.{Bind, full}
 use Rattle.theory.specs.Items.{items, shift, shift-terms, Fine}
 use Rattle.theory.specs.CheckedItems.{fine}
 use Rattle.theory.specs.Relations.{Decided, decided-yes, decided-no, Unifies, Unifiable}
-use Rattle.theory.specs.Solver.{solution, Solution, solution-right}
+use Rattle.theory.specs.Solver.{solution, RightBindings, solution-right}
 use Rattle.theory.specs.Matcher.{matcher, bound, named, turns-right, renames-right}
 use Rattle.definitions.specs.Relations.{Stands}
 use Rattle.definitions.specs.Records.{recordOf, IsRecord, one-record}
@@ -51,11 +51,11 @@ stands sig (suc (suc zero)) t q = bound (arity sig) (matcher (arity sig) (items 
 stands sig (suc (suc (suc zero))) t q = bound (arity sig) (matcher (arity sig) (items t) (items q))
 stands sig (suc (suc (suc (suc r)))) t q = bound (arity sig) (bindings? sig t q)
 
-pub bindings-right : (sig t q : List ℕ) → Fine sig t → Fine sig q → Solution (arity sig) (items t) (shift 32 (items q)) (bindings? sig t q)
+pub bindings-right : (sig t q : List ℕ) → Fine sig t → Fine sig q → RightBindings (arity sig) (items t) (shift 32 (items q)) (bindings? sig t q)
 unfolding bindings?
 bindings-right sig t q a b = solution-right (arity sig) (items t) (shift 32 (items q)) (a .term) (shift-terms (arity sig) 32 1 (items q) (b .term))
 
-unifies-right : (ar : ℕ → ℕ) (s t : List Item) (o : Option (List Bind)) → Solution ar s t o → Decided (bound ar o) (Unifies ar s t)
+unifies-right : (ar : ℕ → ℕ) (s t : List Item) (o : Option (List Bind)) → RightBindings ar s t o → Decided (bound ar o) (Unifies ar s t)
 unifies-right ar s t (some B) h = decided-yes (record { by = full B; sub = h .1 .sub; same = h .1 .unifies })
 unifies-right ar s t none h = decided-no (λ u. h (u .by) (u .sub) (u .same))
 
@@ -72,12 +72,12 @@ pub stands-right : (sig : List ℕ) (r : ℕ) (t q : List ℕ) → sigRefusal si
 stands-right sig r t q s a b = stands-fine sig r t q (fine sig t s a) (fine sig q s b)
 
 -- the record of a stored term and a question, where they unify
-abbrev pub recorded : Option (List Bind) → Option (List ℕ)
-recorded (some B) = some (recordOf (full B))
-recorded none = none
+abbrev pub recordFound : Option (List Bind) → Option (List ℕ)
+recordFound (some B) = some (recordOf (full B))
+recordFound none = none
 
 unfoldable pub record? : List ℕ → List ℕ → List ℕ → Option (List ℕ)
-record? sig t q = recorded (bindings? sig t q)
+record? sig t q = recordFound (bindings? sig t q)
 
 abbrev pub Record? : List ℕ → List ℕ → List ℕ → Option (List ℕ) → Type 0
 Record? sig t q (some w) = IsRecord sig t q w
@@ -87,7 +87,7 @@ pub record-fine : (sig t q : List ℕ) → Fine sig t → Fine sig q → Record?
 unfolding record?
 record-fine sig t q a b = go (bindings? sig t q) (bindings-right sig t q a b)
   where
-    go : (o : Option (List Bind)) → Solution (arity sig) (items t) (shift 32 (items q)) o → Record? sig t q (recorded o)
+    go : (o : Option (List Bind)) → RightBindings (arity sig) (items t) (shift 32 (items q)) o → Record? sig t q (recordFound o)
     go (some B) h = record { by = full B; unifier = record { mgu = h .1; least = h .2 }; is = refl }
     go none h = λ u. h (u .by) (u .sub) (u .same)
 

@@ -11,12 +11,15 @@ use native.Mathlib.Decide.{decLt, ℕ-discrete}
 use borrow.Author.Tests.{le-leb, lt-leb, eq-eqb, ne-eqb, le-ltb, lt-ltb}
 use lib.ListN.{length, getD, length-append, List·getD-eq-default}
 use Rattle.laws.specs.Members.{In}
-use Rattle.terms.specs.Terms.{numbers, span, declared, itemsGood, aritiesGood, sigRefusal, refusal, firstItem, argRefusal}
+use Rattle.terms.specs.Terms.{numbers, span, declared, itemsGood, aritiesGood, sigRefusal, refusal, firstItem}
+use Rattle.terms.specs.Terms.{argRefusal}
 use Rattle.refusals.specs.declared.Refusal.the-variants as Refusal
 use Rattle.refusals.specs.Refusals.{rank}
-use Rattle.definitions.specs.Ranks.{First, end, row, AppliesIn, Gives, at-end, at-row, past-row, at-part, past-part}
-use Rattle.definitions.specs.Conditions.{Item, Terms, Term, Size, Odd, Symbol, Shape, EndsInside, GoesOn, NoSignature, NoArgument, signatureRows, termRows, argumentRows}
-use Rattle.definitions.specs.Conditions.Terms.{done, more}
+use Rattle.definitions.specs.Ranks.{First, end, row, AppliesIn, Gives, at-end, at-row, past-row, at-part}
+use Rattle.definitions.specs.Ranks.{past-part}
+use Rattle.definitions.specs.Conditions.{IsItem, TermsInRow, Term, Size, Odd, Symbol, Shape, EndsInside, GoesOn}
+use Rattle.definitions.specs.Conditions.{NoSignature, NoArgument, signatureRows, termRows, argumentRows}
+use Rattle.definitions.specs.Conditions.TermsInRow.{done, more}
 use Rattle.laws.specs.Sizes.{variableBase, variableEnd}
 use Rattle.terms.specs.Terms.{arity}
 
@@ -34,7 +37,7 @@ span-reach sig (x ∷ y ∷ r) zero = refl
 span-reach sig (x ∷ y ∷ r) (suc k) = let e = span-reach sig r (arity sig (x * 256 + y) + k) in omega (arith, e)
 
 -- k terms in a row take up just their items
-pub terms-reach : (sig : List ℕ) {k : ℕ} {l : List ℕ} → Terms sig k l → (r : List ℕ) (j : ℕ) → reach sig (l ++ r) (k + j) ≡ length l + reach sig r j
+pub terms-reach : (sig : List ℕ) {k : ℕ} {l : List ℕ} → TermsInRow sig k l → (r : List ℕ) (j : ℕ) → reach sig (l ++ r) (k + j) ≡ length l + reach sig r j
 unfolding reach
 terms-reach sig done r j = rw zero-add (omega arith)
 terms-reach sig (more {k = k} {x = x} {l = l} {m = m} a b) r j =
@@ -42,30 +45,30 @@ terms-reach sig (more {k = k} {x = x} {l = l} {m = m} a b) r j =
     let g = terms-reach sig b r j in
     rw (suc-add, append-assoc l m r) (omega (arith, f, g, length-append l m))
 
-terms-split : (sig : List ℕ) (a b : ℕ) (l : List ℕ) → Terms sig (a + b) l
-    → (p : List ℕ) × (q : List ℕ) × (l ≡ p ++ q) × Terms sig a p × Terms sig b q
+terms-split : (sig : List ℕ) (a b : ℕ) (l : List ℕ) → TermsInRow sig (a + b) l
+    → (p : List ℕ) × (q : List ℕ) × (l ≡ p ++ q) × TermsInRow sig a p × TermsInRow sig b q
 terms-split sig zero b l h = ([], l, refl, done, (let e : 0 + b ≡ b = omega arith in rw e at h))
 terms-split sig (suc a) b l h = go l (let e : suc a + b ≡ suc (a + b) = omega arith in rw e at h) (terms-split sig a b)
   where
-    go : (l : List ℕ) → Terms sig (suc (a + b)) l → ((l : List ℕ) → Terms sig (a + b) l → (p : List ℕ) × (q : List ℕ) × (l ≡ p ++ q) × Terms sig a p × Terms sig b q)
-        → (p : List ℕ) × (q : List ℕ) × (l ≡ p ++ q) × Terms sig (suc a) p × Terms sig b q
+    go : (l : List ℕ) → TermsInRow sig (suc (a + b)) l → ((l : List ℕ) → TermsInRow sig (a + b) l → (p : List ℕ) × (q : List ℕ) × (l ≡ p ++ q) × TermsInRow sig a p × TermsInRow sig b q)
+        → (p : List ℕ) × (q : List ℕ) × (l ≡ p ++ q) × TermsInRow sig (suc a) p × TermsInRow sig b q
     go _ (more {x = x} {l = l} {m = m} u v) ih =
         let r = ih m v in
         (x ∷ (l ++ r .0), r .1, ap (λ (z : List ℕ). x ∷ z) (ap (λ (z : List ℕ). l ++ z) (r .2) ∙ sym (append-assoc l (r .0) (r .1))), more u (r .3), r .4)
 
 -- k items that bring no arguments
-leaves : (sig : List ℕ) (k : ℕ) → (m : List ℕ) × (length m ≡ k) × Terms sig k m
+leaves : (sig : List ℕ) (k : ℕ) → (m : List ℕ) × (length m ≡ k) × TermsInRow sig k m
 leaves sig zero = ([], refl, done)
 leaves sig (suc k) =
     let r = leaves sig k in
     let z : arity sig (length sig) ≡ 0 = List·getD-eq-default sig 0 (omega arith) in
     (length sig ∷ r .0, ap suc (r .1), more {x = length sig} {l = []} (rw z done) (r .2))
 
-join : (sig : List ℕ) (x k : ℕ) (l : List ℕ) → Terms sig (arity sig x + k) l → Terms sig (suc k) (x ∷ l)
+join : (sig : List ℕ) (x k : ℕ) (l : List ℕ) → TermsInRow sig (arity sig x + k) l → TermsInRow sig (suc k) (x ∷ l)
 join sig x k l h = let r = terms-split sig (arity sig x) k l h in rw (r .2) (more (r .3) (r .4))
 
 -- where the walk reaches the end or beyond, so many more items make k terms
-reach-beyond : (sig l : List ℕ) (k : ℕ) → length l ≤ reach sig l k → (m : List ℕ) × (length l + length m ≡ reach sig l k) × Terms sig k (l ++ m)
+reach-beyond : (sig l : List ℕ) (k : ℕ) → length l ≤ reach sig l k → (m : List ℕ) × (length l + length m ≡ reach sig l k) × TermsInRow sig k (l ++ m)
 unfolding reach
 reach-beyond sig [] k h = let r = leaves sig k in (r .0, (let e = r .1 in omega (arith, e)), r .2)
 reach-beyond sig (x ∷ l) zero h = absurd (omega (arith, h))
@@ -74,7 +77,7 @@ reach-beyond sig (x ∷ l) (suc k) h =
     (r .0, (let e = r .1 in omega (arith, e)), join sig x k (l ++ r .0) (r .2))
 
 -- where it stops within, k terms stand there, and the rest follows
-reach-within : (sig l : List ℕ) (k : ℕ) → reach sig l k ≤ length l → (p : List ℕ) × (m : List ℕ) × (length p ≡ reach sig l k) × (l ≡ p ++ m) × Terms sig k p
+reach-within : (sig l : List ℕ) (k : ℕ) → reach sig l k ≤ length l → (p : List ℕ) × (m : List ℕ) × (length p ≡ reach sig l k) × (l ≡ p ++ m) × TermsInRow sig k p
 unfolding reach
 reach-within sig [] k h = let e : k ≡ 0 = omega (arith, h) in ([], [], (let f = e in omega (arith, f)), refl, rw e done)
 reach-within sig (x ∷ l) zero h = ([], x ∷ l, refl, refl, done)
@@ -125,11 +128,11 @@ shape-some sig l n = go (decLt (reach sig l 1) (length l))
         inl (r .0, omega (arith, r .1), r .2)
 
 -- the test of an item
-item-told : (sig : List ℕ) (x : ℕ) → ((declared (length sig) x ≡ true) × Item sig x) ⊎ ((declared (length sig) x ≡ false) × (Item sig x → ⊥))
+item-told : (sig : List ℕ) (x : ℕ) → ((declared (length sig) x ≡ true) × IsItem sig x) ⊎ ((declared (length sig) x ≡ false) × (IsItem sig x → ⊥))
 unfolding declared
 item-told sig x = go (decLt x (length sig)) (decLt x variableBase) (decLt x variableEnd)
   where
-    go : Dec (x < length sig) → Dec (x < variableBase) → Dec (x < variableEnd) → ((declared (length sig) x ≡ true) × Item sig x) ⊎ ((declared (length sig) x ≡ false) × (Item sig x → ⊥))
+    go : Dec (x < length sig) → Dec (x < variableBase) → Dec (x < variableEnd) → ((declared (length sig) x ≡ true) × IsItem sig x) ⊎ ((declared (length sig) x ≡ false) × (IsItem sig x → ⊥))
     go (yes a) b c = inl (rw (lt-ltb x (length sig) a), inl a)
     go (no a) (yes b) c =
         let f : length sig ≤ x = omega arith in
@@ -151,7 +154,7 @@ items-told sig [] = inl (refl, λ d. d .1)
 items-told sig (x ∷ []) = inl (refl, λ d. d .1)
 items-told sig (x ∷ y ∷ r) = go (item-told sig (x * 256 + y)) (items-told sig r)
   where
-    go : ((declared (length sig) (x * 256 + y) ≡ true) × Item sig (x * 256 + y)) ⊎ ((declared (length sig) (x * 256 + y) ≡ false) × (Item sig (x * 256 + y) → ⊥))
+    go : ((declared (length sig) (x * 256 + y) ≡ true) × IsItem sig (x * 256 + y)) ⊎ ((declared (length sig) (x * 256 + y) ≡ false) × (IsItem sig (x * 256 + y) → ⊥))
         → ((itemsGood (length sig) r ≡ true) × (Symbol sig r → ⊥)) ⊎ ((itemsGood (length sig) r ≡ false) × Symbol sig r)
         → ((itemsGood (length sig) (x ∷ y ∷ r) ≡ true) × (Symbol sig (x ∷ y ∷ r) → ⊥)) ⊎ ((itemsGood (length sig) (x ∷ y ∷ r) ≡ false) × Symbol sig (x ∷ y ∷ r))
     go (inl a) (inl b) = inl (rw (a .0) (b .0), λ d. ⊎-elim (λ e. d .2 (rw e (a .1))) (λ i. b .1 (d .0, i, d .2)) (d .1))

@@ -16,7 +16,8 @@ use Rattle.keys.specs.Keys.{Tm, Args, node, nil, cons, Place, root, step, Key, 
 use Rattle.keys.specs.Bytes.{stepGood, endGood, stepsGood, isKey}
 use Rattle.terms.specs.Terms.{Signed, refusal}
 use Rattle.definitions.specs.Trees.{countArgs, itemsT, IsSymbol, Variable, Shaped, Shapes, treeOf, keysOf}
-use Rattle.definitions.specs.Spelt.{end-variable, end-symbol, clash, taken, tree-shaped, term-tree, term-tree-is, size-items}
+use Rattle.definitions.specs.Spelt.{end-variable, end-symbol, clash, taken, tree-shaped, term-tree, term-tree-is}
+use Rattle.definitions.specs.Spelt.{size-items}
 use Rattle.terms.specs.Terms.{arity}
 
 unfoldable pub placeBytes : Place → List ℕ
@@ -44,8 +45,8 @@ unfoldable pub FitsPlace : Place → Type 0
 FitsPlace root = Unit {0}
 FitsPlace (step p f i) = FitsPlace p × (f < 256) × (i < 8)
 
-unfoldable pub Fits : Key → Type 0
-Fits (key p e) = FitsPlace p × (e < 257)
+unfoldable pub KeyFits : Key → Type 0
+KeyFits (key p e) = FitsPlace p × (e < 257)
 
 after-place : (p : Place) (r : List ℕ) → FitsPlace p → keyAfter root (placeBytes p ++ r) ≡ keyAfter p r
 unfolding placeBytes keyAfter FitsPlace
@@ -66,8 +67,8 @@ after-end p e l = go (ℕ-discrete e 256)
         rw (ne-eqb e 256 z, a, ne-eqb e 65535 (λ q. omega arith))
 
 -- a key is read back from its bytes
-pub key-bytes : (K : Key) → Fits K → keyOf (keyBytes K) ≡ K
-unfolding keyOf keyBytes Fits
+pub key-bytes : (K : Key) → KeyFits K → keyOf (keyBytes K) ≡ K
+unfolding keyOf keyBytes KeyFits
 key-bytes (key p e) w = after-place p (endBytes e) (w .0) ∙ after-end p e (w .1)
 
 -- the bytes of a list are bytes
@@ -216,8 +217,8 @@ module _ (sig : List ℕ) (g : Signed sig) where
   declared-fits root d = tt
   declared-fits (step p f i) d = (declared-fits p (d .0), omega (arith, d .1, g .short), omega (arith, d .2, g .eight f))
 
-  good-key : (K : Key) → Good K → steps (place K) < 32 → (isKey sig (keyBytes K) ≡ true) × Fits K
-  unfolding Good keyBytes isKey Fits
+  good-key : (K : Key) → Good K → steps (place K) < 32 → (isKey sig (keyBytes K) ≡ true) × KeyFits K
+  unfolding Good keyBytes isKey KeyFits
   good-key (key p e) d l =
       let n : length (placeBytes p ++ endBytes e) ≤ 95 = rw length-append (omega (arith, length-place p, length-end e)) in (
         rw (le-ltb 95 (length (placeBytes p ++ endBytes e)) n) (place-good p (endBytes e) (d .0) (end-good e (d .1))),

@@ -21,7 +21,8 @@ use Rattle.definitions.specs.Relations.{Stands}
 use Rattle.definitions.specs.Decisions.{answer}
 use Rattle.definitions.specs.Candidates.{isVariable, agree, candidate, isCandidate}
 use Rattle.definitions.specs.Spelt.{clash, tree-shaped, tree-spells}
-use Rattle.definitions.specs.LinearFlat.{Cand, done, Lin, lin-instance, lin-variant, lin-unify, cand-shift, lin-shift, shift-apart, Below}
+use Rattle.definitions.specs.LinearFlat.{Cand, done, Lin, lin-instance, lin-variant, lin-unify, cand-shift}
+use Rattle.definitions.specs.LinearFlat.{lin-shift, shift-apart, VariablesBelow}
 use Rattle.definitions.specs.LinearTrees.{flat, agree-cand, same-agree, flat-below, agree-swap, app-shift}
 use Rattle.laws.specs.Sizes.{variableBase}
 use Rattle.terms.specs.Terms.{arity}
@@ -36,9 +37,9 @@ abbrev pub Linear : List ℕ → Type 0
 Linear t = NoDup (variables (numbers t))
 
 -- a test for it, which is right by its type
-unfoldable pub in? : (x : ℕ) (l : List ℕ) → Dec (Members.In x l)
-in? x [] = no (λ h. h)
-in? x (y ∷ l) = go (ℕ-discrete x y) (in? x l)
+unfoldable pub member? : (x : ℕ) (l : List ℕ) → Dec (Members.In x l)
+member? x [] = no (λ h. h)
+member? x (y ∷ l) = go (ℕ-discrete x y) (member? x l)
   where
     go : Dec (x ≡ y) → Dec (Members.In x l) → Dec (Members.In x (y ∷ l))
     go (yes e) d = yes (inl e)
@@ -47,7 +48,7 @@ in? x (y ∷ l) = go (ℕ-discrete x y) (in? x l)
 
 unfoldable pub once? : (l : List ℕ) → Dec (NoDup l)
 once? [] = yes tt
-once? (x ∷ l) = go (in? x l) (once? l)
+once? (x ∷ l) = go (member? x l) (once? l)
   where
     go : Dec (Members.In x l) → Dec (NoDup l) → Dec (NoDup (x ∷ l))
     go (yes i) d = no (λ h. h .0 i)
@@ -59,7 +60,7 @@ linear? t = once? (variables (numbers t))
 
 -- f(x0,x1) repeats no variable, f(x0,x0) does (SCOPE.md's f, symbol 2)
 linear-both : (answer (linear? (0 ∷ 2 ∷ 128 ∷ 0 ∷ 128 ∷ 1 ∷ [])) ≡ true) × (answer (linear? (0 ∷ 2 ∷ 128 ∷ 0 ∷ 128 ∷ 0 ∷ [])) ≡ false)
-unfolding linear? once? in? variables numbers ℕ-discrete
+unfolding linear? once? member? variables numbers ℕ-discrete
 linear-both = (refl, refl)
 
 -- the same of items
@@ -98,7 +99,7 @@ module _ (sig : List ℕ) (g : Signed sig) where
   lin : (t : List ℕ) → Linear t → Lin (items t)
   lin t l = rw (codes-numbers t) (lin-items (numbers t) l)
 
-  below : (t : List ℕ) → refusal sig t ≡ 0 → Below 32 (items t)
+  below : (t : List ℕ) → refusal sig t ≡ 0 → VariablesBelow 32 (items t)
   below t h = rw (items-flat t h) (flat-below sig g (treeOf sig t) (tree-shaped sig t g h))
 
   module _ (q t : List ℕ) (p : refusal sig q ≡ 0) (h : refusal sig t ≡ 0) (qv tv : Bool) where

@@ -10,7 +10,7 @@ use native.Mathlib.Decide.{ℕ-discrete}
 use lib.Dec.{T}
 use Rattle.theory.specs.Flat.{Item, sy, va, Terms}
 use Rattle.theory.specs.Subst.{vars, app, app-append, app-vars, Occurs, in-left, in-right, app-agree, Sub}
-use Rattle.theory.specs.Unify.{pick}
+use Rattle.theory.specs.Unify.{pickDecided}
 use Rattle.theory.specs.Items.{shift, shift-terms}
 use Rattle.theory.specs.Relations.{Turns, Renames}
 
@@ -42,31 +42,31 @@ lin-apart (va y ∷ u) m h x (inl e) j = h .0 (in-right y u m (rw e at j))
 lin-apart (va y ∷ u) m h x (inr i) j = lin-apart u m (h .1) x i j
 
 -- σ with x sent to u
-abbrev pub put : ℕ → List Item → (ℕ → List Item) → ℕ → List Item
-put x u σ y = pick (ℕ-discrete x y) u (σ y)
+abbrev pub putValue : ℕ → List Item → (ℕ → List Item) → ℕ → List Item
+putValue x u σ y = pickDecided (ℕ-discrete x y) u (σ y)
 
-put-same : (x : ℕ) (u : List Item) (σ : ℕ → List Item) → put x u σ x ≡ u
+put-same : (x : ℕ) (u : List Item) (σ : ℕ → List Item) → putValue x u σ x ≡ u
 put-same x u σ = go (ℕ-discrete x x)
   where
-    go : (d : Dec (x ≡ x)) → pick d u (σ x) ≡ u
+    go : (d : Dec (x ≡ x)) → pickDecided d u (σ x) ≡ u
     go (yes e) = refl
     go (no f) = absurd (f refl)
 
-put-other : (x : ℕ) (u : List Item) (σ : ℕ → List Item) (y : ℕ) → x ≢ y → put x u σ y ≡ σ y
+put-other : (x : ℕ) (u : List Item) (σ : ℕ → List Item) (y : ℕ) → x ≢ y → putValue x u σ y ≡ σ y
 put-other x u σ y h = go (ℕ-discrete x y)
   where
-    go : (d : Dec (x ≡ y)) → pick d u (σ y) ≡ σ y
+    go : (d : Dec (x ≡ y)) → pickDecided d u (σ y) ≡ σ y
     go (yes e) = absurd (h e)
     go (no f) = refl
 
-app-put : (x : ℕ) (u : List Item) (σ : ℕ → List Item) (l : List Item) → ¬ Occurs x l → app (put x u σ) l ≡ app σ l
-app-put x u σ l h = app-agree (put x u σ) σ l (λ y i. put-other x u σ y (λ e. h (rw e i)))
+app-put : (x : ℕ) (u : List Item) (σ : ℕ → List Item) (l : List Item) → ¬ Occurs x l → app (putValue x u σ) l ≡ app σ l
+app-put x u σ l h = app-agree (putValue x u σ) σ l (λ y i. put-other x u σ y (λ e. h (rw e i)))
 
 module _ (ar : ℕ → ℕ) where
-  put-sub : (x : ℕ) (u : List Item) (σ : ℕ → List Item) → Terms ar 1 u → Sub ar σ → Sub ar (put x u σ)
+  put-sub : (x : ℕ) (u : List Item) (σ : ℕ → List Item) → Terms ar 1 u → Sub ar σ → Sub ar (putValue x u σ)
   put-sub x u σ h w y = go (ℕ-discrete x y)
     where
-      go : (d : Dec (x ≡ y)) → Terms ar 1 (pick d u (σ y))
+      go : (d : Dec (x ≡ y)) → Terms ar 1 (pickDecided d u (σ y))
       go (yes e) = h
       go (no f) = w y
 
@@ -74,10 +74,10 @@ module _ (ar : ℕ → ℕ) where
   pub lin-instance : (k : ℕ) (l m : List Item) → Cand ar true false k l m → Lin l → Turns ar l m
   lin-instance k l m done n = record { by = vars; sub = λ x. tt; turns = refl }
   lin-instance k l m (both {x = x} {y = y} {l = l′} {m = m′} c) n = let h = lin-instance _ l′ m′ c (n .1) in
-      record { by = put x (vars y) (h .by); sub = put-sub x (vars y) (h .by) tt (h .sub); turns = rw (put-same, app-put x (vars y) (h .by) l′ (n .0), h .turns) }
+      record { by = putValue x (vars y) (h .by); sub = put-sub x (vars y) (h .by) tt (h .sub); turns = rw (put-same, app-put x (vars y) (h .by) l′ (n .0), h .turns) }
   lin-instance k l m (symb s c) n = let h = lin-instance _ _ _ c n in record { by = h .by; sub = h .sub; turns = ap {B = List Item} (λ r. sy s ∷ r) (h .turns) }
   lin-instance k l m (qvar {x = x} {l = l′} {m = m′} u q t c) n = let h = lin-instance _ l′ m′ c (n .1) in
-      record { by = put x u (h .by); sub = put-sub x u (h .by) t (h .sub); turns = rw (put-same, app-put x u (h .by) l′ (n .0), h .turns) }
+      record { by = putValue x u (h .by); sub = put-sub x u (h .by) t (h .sub); turns = rw (put-same, app-put x u (h .by) l′ (n .0), h .turns) }
   lin-instance k l m (tvar u q t c) n = absurd q
 
   -- σ makes l and m the same; what stands in neither stays
@@ -91,7 +91,7 @@ module _ (ar : ℕ → ℕ) where
   lin-step : (x : ℕ) (u l m : List Item) → Terms ar 1 u → ¬ Occurs x l → ¬ Occurs x u → ¬ Occurs x m
       → ((y : ℕ) → Occurs y u → (Occurs y l → ⊥) × (Occurs y m → ⊥)) → LinUnify l m → LinUnify (va x ∷ l) (u ++ m)
   lin-step x u l m t a b c d h = record {
-    by = put x u (h .by);
+    by = putValue x u (h .by);
     sub = put-sub x u (h .by) t (h .sub);
     same = rw (put-same, app-append, app-put x u (h .by) l a, app-put x u (h .by) u b, app-put x u (h .by) m c, h .same, fix) refl;
     outside = λ z i j. put-other x u (h .by) z (λ e. i (inl (sym e))) ∙ h .outside z (λ k. i (inr k)) (λ k. j (in-right z u m k));
@@ -126,19 +126,19 @@ module _ (ar : ℕ → ℕ) where
   ren ρ x = vars (ρ x)
 
   abbrev pub putn : ℕ → ℕ → (ℕ → ℕ) → ℕ → ℕ
-  putn x u ρ y = pick (ℕ-discrete x y) u (ρ y)
+  putn x u ρ y = pickDecided (ℕ-discrete x y) u (ρ y)
 
   putn-same : (x u : ℕ) (ρ : ℕ → ℕ) → putn x u ρ x ≡ u
   putn-same x u ρ = go (ℕ-discrete x x)
     where
-      go : (d : Dec (x ≡ x)) → pick d u (ρ x) ≡ u
+      go : (d : Dec (x ≡ x)) → pickDecided d u (ρ x) ≡ u
       go (yes e) = refl
       go (no f) = absurd (f refl)
 
   app-putn : (x u : ℕ) (ρ : ℕ → ℕ) (l : List Item) → ¬ Occurs x l → app (ren (putn x u ρ)) l ≡ app (ren ρ) l
   app-putn x u ρ l h = app-agree (ren (putn x u ρ)) (ren ρ) l (λ y i. go y (ℕ-discrete x y) i)
     where
-      go : (y : ℕ) (d : Dec (x ≡ y)) → Occurs y l → vars (pick d u (ρ y)) ≡ vars (ρ y)
+      go : (y : ℕ) (d : Dec (x ≡ y)) → Occurs y l → vars (pickDecided d u (ρ y)) ≡ vars (ρ y)
       go y (yes e) i = absurd (h (rw e i))
       go y (no f) i = refl
 
@@ -176,8 +176,8 @@ lin-shift n (sy s ∷ l) h = lin-shift n l h
 lin-shift n (va x ∷ l) h = ((λ i. let r = in-shift n (n + x) l i in h .0 (let e : x ≡ r .0 = omega (arith, r .1) in rw e (r .2))), lin-shift n l (h .1))
 
 -- the variables of a list are below n
-abbrev pub Below : ℕ → List Item → Type 0
-Below n l = (x : ℕ) → Occurs x l → x < n
+abbrev pub VariablesBelow : ℕ → List Item → Type 0
+VariablesBelow n l = (x : ℕ) → Occurs x l → x < n
 
-pub shift-apart : (n : ℕ) (l m : List Item) → Below n l → (z : ℕ) → Occurs z l → Occurs z (shift n m) → ⊥
+pub shift-apart : (n : ℕ) (l m : List Item) → VariablesBelow n l → (z : ℕ) → Occurs z l → Occurs z (shift n m) → ⊥
 shift-apart n l m b z i j = let r = in-shift n z m j in omega (arith, b z i, r .1)

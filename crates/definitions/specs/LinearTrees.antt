@@ -19,7 +19,7 @@ use Rattle.theory.specs.Items.{item16, items16, shift}
 use Rattle.definitions.specs.Trees.{countArgs, itemsT, itemsA, IsSymbol, Variable, Shaped, Shapes}
 use Rattle.definitions.specs.Candidates.{isVariable, agree, agreeAll}
 use Rattle.definitions.specs.Spelt.{clash}
-use Rattle.definitions.specs.LinearFlat.{Below, Cand, both, symb, qvar, tvar}
+use Rattle.definitions.specs.LinearFlat.{VariablesBelow, Cand, both, symb, qvar, tvar}
 use Rattle.laws.specs.Sizes.{variableBase}
 use Rattle.terms.specs.Terms.{arity}
 
@@ -187,7 +187,7 @@ module _ (sig : List ℕ) (g : Signed sig) where
   mutual
     unfolding Shaped
 
-    pub flat-below : (u : Tm) → Shaped sig u → Below 32 (flat u)
+    pub flat-below : (u : Tm) → Shaped sig u → VariablesBelow 32 (flat u)
     flat-below (node x us) w z i = go (w .0) (view x us w) (λ j. flats-below us (w .1) z j)
       where
         one : Variable x → Occurs z (vars (x - variableBase)) → z < 32
@@ -200,7 +200,7 @@ module _ (sig : List ℕ) (g : Signed sig) where
         go (inr h) (inl v) f = one (h .0) (rw (v .1) at i)
         go (inr h) (inr v) f = f (rw (v .1) at i)
 
-    flats-below : (us : Args) → Shapes sig us → Below 32 (flats us)
+    flats-below : (us : Args) → Shapes sig us → VariablesBelow 32 (flats us)
     flats-below nil w z i = absurd (rw flats-nil at i)
     flats-below (cons u us) w z i = go (in-append z (flat u) (flats us) (rw (flats-cons u us) at i)) (λ j. flat-below u (w .0) z j) (λ j. flats-below us (w .1) z j)
       where

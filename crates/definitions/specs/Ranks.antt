@@ -101,15 +101,15 @@ past-part {l = l} {r = r} {k = k} {n = n} f z g = record { in-order = λ h. wide
     }
 
 -- what rows give is 0 or the number of a refusal by name
-abbrev pub Named : ℕ → Type 0
-Named n = (why : Refusal) × (n ≡ numberOf why)
+abbrev pub NumberNamed : ℕ → Type 0
+NumberNamed n = (why : Refusal) × (n ≡ numberOf why)
 
-pub applies-named : (l : Rows) (m : ℕ) → AppliesIn l m → Named m
+pub applies-named : (l : Rows) (m : ℕ) → AppliesIn l m → NumberNamed m
 applies-named (row w A l) m (inl p) = (w, p .0)
 applies-named (row w A l) m (inr p) = applies-named l m p
 applies-named (part l r) m p = ⊎-elim (applies-named l m) (applies-named r m) p
 
-pub first-named : (l : Rows) (n : ℕ) → First (AppliesIn l) n → (n ≡ 0) ⊎ Named n
+pub first-named : (l : Rows) (n : ℕ) → First (AppliesIn l) n → (n ≡ 0) ⊎ NumberNamed n
 first-named l n f = ⊎-elim (λ z. inl z) (λ p. inr (applies-named l n p)) (f .given)
 
 -- two refusals of one rank are one: the number at the place of a number is that number

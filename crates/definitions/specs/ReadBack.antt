@@ -17,12 +17,14 @@ use Rattle.theory.specs.Flat.{Item, sy, va, Terms}
 use Rattle.theory.specs.Subst.{vars, Occurs, in?}
 use Rattle.theory.specs.Unify.{Bind, _:=_, Has, Unbound}
 use Rattle.theory.specs.Canon.{Least, Most, mgu-most, most-same}
-use Rattle.theory.specs.Items.{item16, items16, number, number-item, moved-none, codes, length-codes, codes-at, items, shift, Fine}
+use Rattle.theory.specs.Items.{item16, items16, number, number-item, moved-none, codes, length-codes, codes-at, items}
+use Rattle.theory.specs.Items.{shift, Fine}
 use Rattle.theory.specs.Match.{once}
 use Rattle.theory.specs.Solver.{once-cases}
 use Rattle.theory.specs.Matcher.{items?}
 use Rattle.theory.specs.Fresh.{stays, absent, changed-occurs, kept}
-use Rattle.definitions.specs.Records.{Unifier, unless, listedFrom, listed, bytes, fieldBytes, written, recordOf, countOf, Short}
+use Rattle.definitions.specs.Records.{Unifier, unlessDecided, listedFrom, listedBindings, bytes, fieldBytes}
+use Rattle.definitions.specs.Records.{writtenFields, recordOf, countOf, Short}
 use Rattle.laws.specs.Sizes.{variableBase, variableEnd}
 use Rattle.terms.specs.Terms.{arity, numbers}
 
@@ -60,44 +62,44 @@ abbrev Kept : List Bind → Type 0
 Kept [] = Unit {0}
 Kept ((y := l) ∷ r) = (map code l ≡ l) × Kept r
 
-read-written : (r : List Bind) → Kept r → (k : ℕ) → length r ≤ k → readFrom k (written r) ≡ r
-unfolding readFrom written fieldBytes
+read-written : (r : List Bind) → Kept r → (k : ℕ) → length r ≤ k → readFrom k (writtenFields r) ≡ r
+unfolding readFrom writtenFields fieldBytes
 read-written [] a zero b = refl
 read-written [] a (suc k) b = refl
 read-written ((y := l) ∷ r) a zero b = absurd (omega arith)
 read-written ((y := l) ∷ r) a (suc k) b =
     let w = bytes (va y ∷ l) in
     let e : length w / 256 * 256 + length w % 256 ≡ length w = omega arith in
-    let f : take (length w) (w ++ written r) ≡ w = take-at w (written r) (length w) refl in
-    let g : drop (length w) (w ++ written r) ≡ written r = drop-at w (written r) (length w) refl in
+    let f : take (length w) (w ++ writtenFields r) ≡ w = take-at w (writtenFields r) (length w) refl in
+    let g : drop (length w) (w ++ writtenFields r) ≡ writtenFields r = drop-at w (writtenFields r) (length w) refl in
     let i : items w ≡ va y ∷ l = items-bytes (va y ∷ l) ∙ rw (code-var y, a .0) in
     rw (e, f, g, i, read-written r (a .1) k (omega arith))
 
-length-written : (r : List Bind) → length r ≤ length (written r)
-unfolding written fieldBytes
+length-written : (r : List Bind) → length r ≤ length (writtenFields r)
+unfolding writtenFields fieldBytes
 length-written [] = omega arith
-length-written ((y := l) ∷ r) = omega (arith, length-append (fieldBytes (y := l)) (written r), length-written r)
+length-written ((y := l) ∷ r) = omega (arith, length-append (fieldBytes (y := l)) (writtenFields r), length-written r)
 
-pub read-listed : (r : List Bind) → Kept r → readFields (written r) ≡ r
+pub read-listed : (r : List Bind) → Kept r → readFields (writtenFields r) ≡ r
 unfolding readFields
-read-listed r a = read-written r a (length (written r)) (length-written r)
+read-listed r a = read-written r a (length (writtenFields r)) (length-written r)
 
 -- the listed variables ascend from b on
-abbrev pub Ascends : ℕ → List Bind → Type 0
-Ascends b [] = Unit {0}
-Ascends b ((x := u) ∷ r) = (b ≤ x) × Ascends (suc x) r
+abbrev pub FieldsAscend : ℕ → List Bind → Type 0
+FieldsAscend b [] = Unit {0}
+FieldsAscend b ((x := u) ∷ r) = (b ≤ x) × FieldsAscend (suc x) r
 
-ascends-less : (b c : ℕ) (r : List Bind) → b ≤ c → Ascends c r → Ascends b r
+ascends-less : (b c : ℕ) (r : List Bind) → b ≤ c → FieldsAscend c r → FieldsAscend b r
 ascends-less b c [] l a = tt
 ascends-less b c ((x := u) ∷ r) l a = (omega (arith, a .0), a .1)
 
 module _ (θ : ℕ → List Item) where
-  listed-ascends : (k y : ℕ) → Ascends y (listedFrom θ k y)
+  listed-ascends : (k y : ℕ) → FieldsAscend y (listedFrom θ k y)
   unfolding listedFrom
   listed-ascends zero y = tt
   listed-ascends (suc k) y = go (items? (θ y) (vars y)) (listed-ascends k (y + 1))
     where
-      go : (d : Dec (θ y ≡ vars y)) → Ascends (y + 1) (listedFrom θ k (y + 1)) → Ascends y (unless d (y := θ y) (listedFrom θ k (y + 1)))
+      go : (d : Dec (θ y ≡ vars y)) → FieldsAscend (y + 1) (listedFrom θ k (y + 1)) → FieldsAscend y (unlessDecided d (y := θ y) (listedFrom θ k (y + 1)))
       go (yes e) a = ascends-less y (y + 1) (listedFrom θ k (y + 1)) (omega arith) a
       go (no n) a = (omega arith, rw (← add-one y) a)
 
@@ -111,7 +113,7 @@ module _ (θ : ℕ → List Item) where
       less a = (a .0, a .1, omega (arith, a .2))
 
       go : (d : Dec (θ y ≡ vars y)) → (Has x u (listedFrom θ k (y + 1)) → (u ≡ θ x) × (θ x ≢ vars x) × (x < y + 1 + k))
-          → Has x u (unless d (y := θ y) (listedFrom θ k (y + 1))) → (u ≡ θ x) × (θ x ≢ vars x) × (x < y + suc k)
+          → Has x u (unlessDecided d (y := θ y) (listedFrom θ k (y + 1))) → (u ≡ θ x) × (θ x ≢ vars x) × (x < y + suc k)
       go (yes e) ih i = less (ih i)
       go (no n) ih (inl e) = (rw (e .0) (e .1), rw (e .0) n, omega (arith, e .0))
       go (no n) ih (inr i) = less (ih i)
@@ -123,18 +125,18 @@ module _ (θ : ℕ → List Item) where
   listed-not (suc k) y x n a b = go (items? (θ y) (vars y)) (ℕ-discrete y x) (listed-not k (y + 1) x) n
     where
       go : (d : Dec (θ y ≡ vars y)) → Dec (y ≡ x) → (Unbound x (listedFrom θ k (y + 1)) → y + 1 ≤ x → x < y + 1 + k → θ x ≡ vars x)
-          → Unbound x (unless d (y := θ y) (listedFrom θ k (y + 1))) → θ x ≡ vars x
+          → Unbound x (unlessDecided d (y := θ y) (listedFrom θ k (y + 1))) → θ x ≡ vars x
       go (yes e) (yes p) ih i = rw (← p) e
       go (yes e) (no p) ih i = ih i (omega (arith, p)) (omega arith)
       go (no q) (yes p) ih i = absurd (i .0 p)
       go (no q) (no p) ih i = ih (i .1) (omega (arith, p)) (omega arith)
 
   -- the listing as a substitution, where only the first 64 variables change
-  once-listed : ((x : ℕ) → 64 ≤ x → θ x ≡ vars x) → (x : ℕ) → once (listed θ) x ≡ θ x
-  once-listed h x = go (once-cases (listed θ) x) (decLe 64 x)
+  once-listed : ((x : ℕ) → 64 ≤ x → θ x ≡ vars x) → (x : ℕ) → once (listedBindings θ) x ≡ θ x
+  once-listed h x = go (once-cases (listedBindings θ) x) (decLe 64 x)
     where
-      go : Has x (once (listed θ) x) (listed θ) ⊎ (Unbound x (listed θ) × (once (listed θ) x ≡ vars x)) → Dec (64 ≤ x) → once (listed θ) x ≡ θ x
-      go (inl a) d = listed-has 64 0 x (once (listed θ) x) a .0
+      go : Has x (once (listedBindings θ) x) (listedBindings θ) ⊎ (Unbound x (listedBindings θ) × (once (listedBindings θ) x ≡ vars x)) → Dec (64 ≤ x) → once (listedBindings θ) x ≡ θ x
+      go (inl a) d = listed-has 64 0 x (once (listedBindings θ) x) a .0
       go (inr n) (yes b) = n .1 ∙ sym (h x b)
       go (inr n) (no b) = n .1 ∙ sym (listed-not 64 0 x (n .0) (omega arith) (omega arith))
 
@@ -143,7 +145,7 @@ module _ (θ : ℕ → List Item) where
   kept-listed h zero y = tt
   kept-listed h (suc k) y = go (items? (θ y) (vars y)) (kept-listed h k (y + 1))
     where
-      go : (d : Dec (θ y ≡ vars y)) → Kept (listedFrom θ k (y + 1)) → Kept (unless d (y := θ y) (listedFrom θ k (y + 1)))
+      go : (d : Dec (θ y ≡ vars y)) → Kept (listedFrom θ k (y + 1)) → Kept (unlessDecided d (y := θ y) (listedFrom θ k (y + 1)))
       go (yes e) a = a
       go (no n) a = (h y, a)
 
@@ -197,7 +199,7 @@ pub record Reads (sig t q : List ℕ) (r : List Bind) : Type 0 where
   -- 'all take the one with the smallest written number'
   pub least : Least (once r)
   -- 'by ascending written number'
-  pub ascends : Ascends 0 r
+  pub ascends : FieldsAscend 0 r
   -- 'each variable that occurs and whose value is not itself'
   pub occurs : (x : ℕ) (u : List Item) → Has x u r → Occurs x (items t) ⊎ Occurs x (shift 32 (items q))
   pub differs : (x : ℕ) (u : List Item) → Has x u r → u ≢ vars x
@@ -211,9 +213,9 @@ module _ (sig t q : List ℕ) (ft : Fine sig t) (fq : Fine sig q) (θ : ℕ → 
   coded = kept (arity sig) (items t) (shift 32 (items q)) θ (u .mgu) code code-var (code-terms sig (ft .sized)) (code-items (codes 0 t)) (code-shift 32 (items q) (code-items (codes 0 q)))
 
   -- the bytes of the record are read as what is listed
-  pub read-record : readFields (recordOf θ) ≡ listed θ
+  pub read-record : readFields (recordOf θ) ≡ listedBindings θ
   unfolding recordOf
-  read-record = read-listed (listed θ) (kept-listed θ coded 64 0)
+  read-record = read-listed (listedBindings θ) (kept-listed θ coded 64 0)
 
   pub read-count : countOf θ ≡ length (readFields (recordOf θ))
   unfolding countOf
@@ -223,9 +225,9 @@ module _ (sig t q : List ℕ) (ft : Fine sig t) (fq : Fine sig q) (θ : ℕ → 
   pub read-value : (x : ℕ) → once (readFields (recordOf θ)) x ≡ θ x
   read-value x = ap (λ r. once r x) read-record ∙ once-listed θ beyond x
 
-  reads : Reads sig t q (listed θ)
+  reads : Reads sig t q (listedBindings θ)
   reads = record {
-    most = most-same (arity sig) (items t) (shift 32 (items q)) θ (once (listed θ)) (λ x. sym (once-listed θ beyond x)) (mgu-most (arity sig) (items t) (shift 32 (items q)) θ (u .mgu));
+    most = most-same (arity sig) (items t) (shift 32 (items q)) θ (once (listedBindings θ)) (λ x. sym (once-listed θ beyond x)) (mgu-most (arity sig) (items t) (shift 32 (items q)) θ (u .mgu));
     least = λ x y e. u .least x y (sym (once-listed θ beyond x) ∙ e);
     ascends = listed-ascends θ 64 0;
     occurs = λ x v h. changed-occurs (arity sig) (items t) (shift 32 (items q)) θ (u .mgu) (u .least) x (listed-has θ 64 0 x v h .1);
@@ -276,14 +278,14 @@ module _ (sig t q : List ℕ) (ft : Fine sig t) (fq : Fine sig q) (θ : ℕ → 
       let n = length-bytes (θ y) in
       (omega arith, (omega (arith, s y b), (omega arith, (omega arith, (omega arith, octets-bytes (θ y) (coded sig t q ft fq θ u y) (value-below y b))))))
 
-  listed-octets : Short θ → (k y : ℕ) → y + k ≤ 64 → Octets (written (listedFrom θ k y))
-  unfolding listedFrom written
+  listed-octets : Short θ → (k y : ℕ) → y + k ≤ 64 → Octets (writtenFields (listedFrom θ k y))
+  unfolding listedFrom writtenFields
   listed-octets s zero y b = tt
   listed-octets s (suc k) y b = go (items? (θ y) (vars y)) (listed-octets s k (y + 1) (omega arith))
     where
-      go : (d : Dec (θ y ≡ vars y)) → Octets (written (listedFrom θ k (y + 1))) → Octets (written (unless d (y := θ y) (listedFrom θ k (y + 1))))
+      go : (d : Dec (θ y ≡ vars y)) → Octets (writtenFields (listedFrom θ k (y + 1))) → Octets (writtenFields (unlessDecided d (y := θ y) (listedFrom θ k (y + 1))))
       go (yes e) o = o
-      go (no n) o = octets-append (fieldBytes (y := θ y)) (written (listedFrom θ k (y + 1))) (field-octets s y (omega arith)) o
+      go (no n) o = octets-append (fieldBytes (y := θ y)) (writtenFields (listedFrom θ k (y + 1))) (field-octets s y (omega arith)) o
 
   -- where no value is over 2,048 items, the record is a list of bytes: each length fits into two
   pub record-octets : Short θ → Octets (recordOf θ)

@@ -18,18 +18,18 @@ pub record Unifier (sig : List ℕ) (a b : List Item) (θ : ℕ → List Item) :
   pub mgu : Mgu (arity sig) a b θ
   pub least : Least θ
 
-abbrev pub unless : {P : Type 0} → Dec P → Bind → List Bind → List Bind
-unless (yes h) b r = r
-unless (no n) b r = b ∷ r
+abbrev pub unlessDecided : {P : Type 0} → Dec P → Bind → List Bind → List Bind
+unlessDecided (yes h) b r = r
+unlessDecided (no n) b r = b ∷ r
 
 -- of the k variables from y on, those 'whose value is not itself, by ascending written number'
 unfoldable pub listedFrom : (ℕ → List Item) → ℕ → ℕ → List Bind
 listedFrom θ zero y = []
-listedFrom θ (suc k) y = unless (items? (θ y) (vars y)) (y := θ y) (listedFrom θ k (y + 1))
+listedFrom θ (suc k) y = unlessDecided (items? (θ y) (vars y)) (y := θ y) (listedFrom θ k (y + 1))
 
 -- the written variables are 64: 0 to 31 of the stored term, 32 to 63 of the question
-abbrev pub listed : (ℕ → List Item) → List Bind
-listed θ = listedFrom θ 64 0
+abbrev pub listedBindings : (ℕ → List Item) → List Bind
+listedBindings θ = listedFrom θ 64 0
 
 -- items in bytes, 'two bytes, high byte first'
 unfoldable pub bytes : List Item → List ℕ
@@ -40,17 +40,17 @@ bytes (i ∷ l) = number i / 256 ∷ number i % 256 ∷ bytes l
 unfoldable pub fieldBytes : Bind → List ℕ
 fieldBytes (y := l) = 16 ∷ length (bytes (va y ∷ l)) / 256 ∷ length (bytes (va y ∷ l)) % 256 ∷ bytes (va y ∷ l)
 
-unfoldable pub written : List Bind → List ℕ
-written [] = []
-written (b ∷ r) = fieldBytes b ++ written r
+unfoldable pub writtenFields : List Bind → List ℕ
+writtenFields [] = []
+writtenFields (b ∷ r) = fieldBytes b ++ writtenFields r
 
 -- the record of a unifier
 unfoldable pub recordOf : (ℕ → List Item) → List ℕ
-recordOf θ = written (listed θ)
+recordOf θ = writtenFields (listedBindings θ)
 
 -- 'solve answers the number of fields'
 unfoldable pub countOf : (ℕ → List Item) → ℕ
-countOf θ = length (listed θ)
+countOf θ = length (listedBindings θ)
 
 -- what refusal 14 is not given for: no value has over 2,048 items
 abbrev pub Short : (ℕ → List Item) → Type 0
@@ -71,10 +71,10 @@ listed-same θ η h (suc k) y = rw (h y, listed-same θ η h k (y + 1))
 pub one-unifier : (sig : List ℕ) (a b : List Item) (θ η : ℕ → List Item) → Unifier sig a b θ → Unifier sig a b η → (x : ℕ) → θ x ≡ η x
 one-unifier sig a b θ η u v = unique (arity sig) a b θ η (u .mgu) (v .mgu) (u .least) (v .least)
 
-pub one-listing : (sig : List ℕ) (a b : List Item) (θ η : ℕ → List Item) → Unifier sig a b θ → Unifier sig a b η → listed θ ≡ listed η
+pub one-listing : (sig : List ℕ) (a b : List Item) (θ η : ℕ → List Item) → Unifier sig a b θ → Unifier sig a b η → listedBindings θ ≡ listedBindings η
 one-listing sig a b θ η u v = listed-same θ η (one-unifier sig a b θ η u v) 64 0
 
 pub one-record : (sig t q w w′ : List ℕ) → IsRecord sig t q w → IsRecord sig t q w′ → w ≡ w′
 unfolding recordOf
 one-record sig t q w w′ r s =
-    r .is ∙ ap written (one-listing sig (items t) (shift 32 (items q)) (r .by) (s .by) (r .unifier) (s .unifier)) ∙ sym (s .is)
+    r .is ∙ ap writtenFields (one-listing sig (items t) (shift 32 (items q)) (r .by) (s .by) (r .unifier) (s .unifier)) ∙ sym (s .is)

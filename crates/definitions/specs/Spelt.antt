@@ -14,11 +14,13 @@ use lib.ListN.{length, getD, take, drop, length-append, length-take, length-drop
 use lib.Seq.{drop-drop}
 use Rattle.laws.specs.Choice.{pick}
 use Rattle.laws.specs.Members.{In, NoDup}
-use Rattle.keys.specs.Keys.{Tm, Args, node, nil, cons, nth, root, Key, endOf, size, sizes, HasKey, keys-length, keys-nodup, in-has, has-in}
+use Rattle.keys.specs.Keys.{Tm, Args, node, nil, cons, nth, root, Key, endOf, size, sizes, HasKey, keys-length}
+use Rattle.keys.specs.Keys.{keys-nodup, in-has, has-in}
 use Rattle.terms.specs.Terms.{numbers, span, declared, itemsGood, Signed, refusal, firstItem, argRefusal, argBytes}
 use Rattle.terms.proofs.TermLaws.{Good, good, span-zero, all-taken, length-numbers, arg-none}
 use Rattle.theory.specs.CheckedItems.{fine-good}
-use Rattle.definitions.specs.Trees.{countArgs, itemsT, itemsA, IsSymbol, Variable, Shaped, Shapes, IsTerm, firsts, others, forest, top, treeOf, argsOf, keysOf}
+use Rattle.definitions.specs.Trees.{countArgs, itemsT, itemsA, IsSymbol, Variable, Shaped, Shapes, IsTerm, firsts}
+use Rattle.definitions.specs.Trees.{argumentsAfter, forest, top, treeOf, argsOf, keysOf}
 use Rattle.laws.specs.Sizes.{variableBase, variableEnd}
 use Rattle.terms.specs.Terms.{arity}
 
@@ -42,8 +44,8 @@ unfolding join countArgs firsts
 firsts-join nil vs k = rw zero-add
 firsts-join (cons u us) vs k = rw (suc-add, firsts-join us vs k)
 
-others-join : (us vs : Args) (k : ℕ) → others (countArgs us + k) (join us vs) ≡ others k vs
-unfolding join countArgs others
+others-join : (us vs : Args) (k : ℕ) → argumentsAfter (countArgs us + k) (join us vs) ≡ argumentsAfter k vs
+unfolding join countArgs argumentsAfter
 others-join nil vs k = rw zero-add
 others-join (cons u us) vs k = rw (suc-add, others-join us vs k)
 
@@ -56,8 +58,8 @@ firsts-all : (us vs : Args) → firsts (countArgs us) (join us vs) ≡ us
 unfolding firsts
 firsts-all us vs = rw (add-zero, join-nil) at (firsts-join us vs 0)
 
-others-all : (us vs : Args) → others (countArgs us) (join us vs) ≡ vs
-unfolding others
+others-all : (us vs : Args) → argumentsAfter (countArgs us) (join us vs) ≡ vs
+unfolding argumentsAfter
 others-all us vs = rw add-zero at (others-join us vs 0)
 
 count-firsts : (k n : ℕ) (us : Args) → countArgs us ≡ k + n → countArgs (firsts k us) ≡ k
@@ -66,14 +68,14 @@ count-firsts zero n us e = refl
 count-firsts (suc k) n nil e = omega arith
 count-firsts (suc k) n (cons u us) e = ap suc (count-firsts k n us (omega arith))
 
-count-others : (k n : ℕ) (us : Args) → countArgs us ≡ k + n → countArgs (others k us) ≡ n
-unfolding others countArgs
+count-others : (k n : ℕ) (us : Args) → countArgs us ≡ k + n → countArgs (argumentsAfter k us) ≡ n
+unfolding argumentsAfter countArgs
 count-others zero n us e = omega arith
 count-others (suc k) n nil e = omega arith
 count-others (suc k) n (cons u us) e = count-others k n us (omega arith)
 
-items-parts : (k : ℕ) (us : Args) → itemsA (firsts k us) ++ itemsA (others k us) ≡ itemsA us
-unfolding firsts others itemsT
+items-parts : (k : ℕ) (us : Args) → itemsA (firsts k us) ++ itemsA (argumentsAfter k us) ≡ itemsA us
+unfolding firsts argumentsAfter itemsT
 items-parts zero us = refl
 items-parts (suc k) nil = refl
 items-parts (suc k) (cons u us) = rw (append-assoc, items-parts k us)
@@ -102,8 +104,8 @@ module _ (sig : List ℕ) where
   shapes-firsts (suc k) nil w = tt
   shapes-firsts (suc k) (cons u us) w = (w .0, shapes-firsts k us (w .1))
 
-  pub shapes-others : (k : ℕ) (us : Args) → Shapes sig us → Shapes sig (others k us)
-  unfolding others Shaped
+  pub shapes-others : (k : ℕ) (us : Args) → Shapes sig us → Shapes sig (argumentsAfter k us)
+  unfolding argumentsAfter Shaped
   shapes-others zero us w = w
   shapes-others (suc k) nil w = tt
   shapes-others (suc k) (cons u us) w = shapes-others k us (w .1)
@@ -182,7 +184,7 @@ module _ (sig : List ℕ) where
 
       go : (declared (length sig) y ≡ true) × (itemsGood (length sig) r ≡ true)
           → (itemsGood (length sig) r ≡ true → (countArgs F ≡ A + k) × Shapes sig F × (itemsA F ≡ numbers r))
-          → (suc (countArgs (others A F)) ≡ suc k) × (Shaped sig (node y (firsts A F)) × Shapes sig (others A F)) × (y ∷ itemsA (firsts A F) ++ itemsA (others A F) ≡ y ∷ numbers r)
+          → (suc (countArgs (argumentsAfter A F)) ≡ suc k) × (Shaped sig (node y (firsts A F)) × Shapes sig (argumentsAfter A F)) × (y ∷ itemsA (firsts A F) ++ itemsA (argumentsAfter A F) ≡ y ∷ numbers r)
       go d ih = let i = ih (d .1) in (
         ap suc (count-others A k F (i .0)),
         (declared-shape b y (firsts A F) (d .0) (count-firsts A k F (i .0)) (shapes-firsts A F (i .1)), shapes-others A F (i .1)),
@@ -193,15 +195,15 @@ module _ (sig : List ℕ) where
   pub record Parts (t : List ℕ) (k : ℕ) (us : Args) : Type 0 where
     pub long : span sig t k ≡ 2 * length (itemsA (firsts k us))
     pub before : numbers (take (span sig t k) t) ≡ itemsA (firsts k us)
-    pub after : numbers (drop (span sig t k) t) ≡ itemsA (others k us)
+    pub after : numbers (drop (span sig t k) t) ≡ itemsA (argumentsAfter k us)
 
   parts-none : (t : List ℕ) (us : Args) → numbers t ≡ itemsA us → Parts t 0 us
-  unfolding firsts others itemsT numbers
+  unfolding firsts argumentsAfter itemsT numbers
   parts-none t us e = record { long = rw (span-zero sig t); before = rw (span-zero sig t); after = rw (span-zero sig t) e }
 
   parts-more : (h m : ℕ) (r : List ℕ) (k x : ℕ) (vs us : Args) → countArgs vs ≡ arity sig x → h * 256 + m ≡ x → Parts r (countArgs vs + k) (join vs us)
       → Parts (h ∷ m ∷ r) (suc k) (cons (node x vs) us)
-  unfolding numbers span firsts others itemsT
+  unfolding numbers span firsts argumentsAfter itemsT
   parts-more h m r k x vs us c e p =
       let f : itemsA (firsts (countArgs vs + k) (join vs us)) ≡ itemsA vs ++ itemsA (firsts k us) = ap itemsA (firsts-join vs us k) ∙ items-join vs (firsts k us) in
       record {
@@ -301,12 +303,12 @@ module _ (sig : List ℕ) where
     pub one : Tm
     pub is : nth k us ≡ some one
     pub shaped : Shaped sig one
-    pub first : itemsA (firsts 1 (others k us)) ≡ itemsT one
-    pub fits : length (itemsT one) ≤ length (itemsA (others k us))
-    pub counts : 1 ≤ countArgs (others k us)
+    pub first : itemsA (firsts 1 (argumentsAfter k us)) ≡ itemsT one
+    pub fits : length (itemsT one) ≤ length (itemsA (argumentsAfter k us))
+    pub counts : 1 ≤ countArgs (argumentsAfter k us)
 
   nth-tree : (k : ℕ) (us : Args) → Shapes sig us → k < countArgs us → Nth k us
-  unfolding nth firsts others itemsT Shaped countArgs
+  unfolding nth firsts argumentsAfter itemsT Shaped countArgs
   nth-tree k nil w l = absurd (omega arith)
   nth-tree zero (cons u us) w l = record { one = u; is = refl; shaped = w .0; first = append-nil (itemsT u); fits = rw length-append (omega arith); counts = omega arith }
   nth-tree (suc k) (cons u us) w l = let h = nth-tree k us (w .1) (omega arith) in
@@ -334,7 +336,7 @@ module _ (sig : List ℕ) where
       let p = parts (s .short) D (i - 1) us (w .1) (omega (arith, c, n .2)) (r .1) in
       let v = nth-tree (i - 1) us (w .1) (omega (arith, c, n .1, n .2)) in
       let E = drop (span sig D (i - 1)) D in
-      let q = parts (s .short) E 1 (others (i - 1) us) (shapes-others (i - 1) us (w .1)) (v .counts) (p .after) in
+      let q = parts (s .short) E 1 (argumentsAfter (i - 1) us) (shapes-others (i - 1) us (w .1)) (v .counts) (p .after) in
       let f = ap length (v .first) in
       let z = length-numbers E in
       let y = ap length (p .after) in

@@ -33,7 +33,8 @@ Variable x = (variableBase ≤ x) × (x < variableEnd)
 -- a symbol has as many arguments as its arity; a variable has none
 unfoldable mutual
   pub Shaped : List ℕ → Tm → Type 0
-  Shaped sig (node x us) = ((IsSymbol sig x × (countArgs us ≡ arity sig x)) ⊎ (Variable x × (countArgs us ≡ 0))) × Shapes sig us
+  Shaped sig (node x us) = ((IsSymbol sig x × (countArgs us ≡ arity sig x)) ⊎ (Variable x × (countArgs us ≡ 0)))
+      × Shapes sig us
 
   pub Shapes : List ℕ → Args → Type 0
   Shapes sig nil = Unit {0}
@@ -53,15 +54,16 @@ firsts zero us = nil
 firsts (suc k) nil = nil
 firsts (suc k) (cons t us) = cons t (firsts k us)
 
-unfoldable pub others : ℕ → Args → Args
-others zero us = us
-others (suc k) nil = nil
-others (suc k) (cons t us) = others k us
+unfoldable pub argumentsAfter : ℕ → Args → Args
+argumentsAfter zero us = us
+argumentsAfter (suc k) nil = nil
+argumentsAfter (suc k) (cons t us) = argumentsAfter k us
 
 -- items read from the last to the first: each takes its arguments from the trees that follow it
 unfoldable pub forest : List ℕ → List ℕ → Args
 forest sig [] = nil
-forest sig (x ∷ xs) = cons (node x (firsts (arity sig x) (forest sig xs))) (others (arity sig x) (forest sig xs))
+forest sig (x ∷ xs) =
+    cons (node x (firsts (arity sig x) (forest sig xs))) (argumentsAfter (arity sig x) (forest sig xs))
 
 unfoldable pub top : Args → Tm
 top nil = node 0 nil

@@ -17,7 +17,7 @@ use Rattle.calls.specs.declared.Reply.the-variants as Reply
 use Rattle.calls.specs.Outcome.{Outcome, outcome, told}
 use Rattle.library.specs.Store.{Call, roomOf}
 use Rattle.meaning.specs.Runs.{carried, Tells, TellsFirst, TellsBoth, toldNumber}
-use Rattle.export_answers.specs.Replies.{replyNumber, firstOf, secondOf}
+use Rattle.export_answers.specs.Replies.{replyNumber, firstTold, secondOf}
 
 -- the answer about one pair, as it goes to C
 pub told-pair : (sig s q : List ℕ) (a : Paired) (r was is : ℕ) → Answers sig s q a → r ≡ pairedNumber a → is ≡ pairedAnswer a was → (r ≡ pairRefusal sig s q) × Told r was is (Unifies sig s q)
@@ -36,11 +36,11 @@ module _ (T S : Tables) (out₀ out : List ℕ) (c : Call) (x : Reply) (r : ℕ)
       go (Reply.Refused why) h e =
           record { room = l; number = e ∙ ap (λ (o : Outcome). o .refused) h; tables = ap (λ (o : Outcome). o .after) h; bytes = ap (λ (o : Outcome). o .out) h }
 
-  first-told : (was is : ℕ) → is ≡ firstOf x was → is ≡ toldNumber r (firstIn (carried T c .answer)) was
+  first-told : (was is : ℕ) → is ≡ firstTold x was → is ≡ toldNumber r (firstIn (carried T c .answer)) was
   unfolding toldNumber
   first-told was is f = go x h e f
     where
-      go : (x : Reply) → outcome x S out ≡ told out₀ (carried T c) → r ≡ replyNumber x → is ≡ firstOf x was → is ≡ toldNumber r (firstIn (carried T c .answer)) was
+      go : (x : Reply) → outcome x S out ≡ told out₀ (carried T c) → r ≡ replyNumber x → is ≡ firstTold x was → is ≡ toldNumber r (firstIn (carried T c .answer)) was
       go (Reply.Done a b) h e f = rw (eq-eqb r 0 e) (f ∙ ap (λ (o : Outcome). o .first) h)
       go (Reply.Refused why) h e f = rw (ne-eqb r 0 (λ z. number-some why (sym e ∙ z))) f
 
@@ -52,9 +52,9 @@ module _ (T S : Tables) (out₀ out : List ℕ) (c : Call) (x : Reply) (r : ℕ)
       go (Reply.Done a b) h e f = rw (eq-eqb r 0 e) (f ∙ ap (λ (o : Outcome). o .second) h)
       go (Reply.Refused why) h e f = rw (ne-eqb r 0 (λ z. number-some why (sym e ∙ z))) f
 
-  pub tells-first : length out₀ ≡ roomOf c → (was is : ℕ) → is ≡ firstOf x was → TellsFirst T out₀ c S out r was is
+  pub tells-first : length out₀ ≡ roomOf c → (was is : ℕ) → is ≡ firstTold x was → TellsFirst T out₀ c S out r was is
   tells-first l was is f = (tells l, first-told was is f)
 
-  pub tells-both : length out₀ ≡ roomOf c → (was is was′ is′ : ℕ) → is ≡ firstOf x was → is′ ≡ secondOf x was′
+  pub tells-both : length out₀ ≡ roomOf c → (was is was′ is′ : ℕ) → is ≡ firstTold x was → is′ ≡ secondOf x was′
       → TellsBoth T out₀ c S out r was is was′ is′
   tells-both l was is was′ is′ f g = (tells l, first-told was is f, second-told was′ is′ g)

@@ -11,9 +11,9 @@ replyNumber (Done a b) = 0
 replyNumber (Refused why) = numberOf why
 
 -- what stands there afterwards; what was there before, where the answer is a refusal
-abbrev pub firstOf : Reply → ℕ → ℕ
-firstOf (Done a b) was = a
-firstOf (Refused why) was = was
+abbrev pub firstTold : Reply → ℕ → ℕ
+firstTold (Done a b) was = a
+firstTold (Refused why) was = was
 
 abbrev pub secondOf : Reply → ℕ → ℕ
 secondOf (Done a b) was = b

@@ -3,7 +3,7 @@ use calls::Reply;
 use pairs::Paired;
 ghost use mathlib.Core.Path.{_≡_};
 ghost use Rattle.export_answers.specs.Pair.{pairedNumber, pairedAnswer};
-ghost use Rattle.export_answers.specs.Replies.{replyNumber, firstOf, secondOf};
+ghost use Rattle.export_answers.specs.Replies.{replyNumber, firstTold, secondOf};
 
 // A refusal's number as C has it.
 pub fn code(number: u8) -> u32
@@ -40,7 +40,7 @@ pub fn number_of(reply: Reply) -> u32
 
 // Of a call that tells its first number.
 pub fn tell_first(reply: Reply, told: &mut usize) -> u32
-    ensures { λ r. ⌜ (r ≡ replyNumber reply) × (now (told .exit) ≡ firstOf reply (now (told .entry))) ⌝ }
+    ensures { λ r. ⌜ (r ≡ replyNumber reply) × (now (told .exit) ≡ firstTold reply (now (told .entry))) ⌝ }
 {
     match reply {
         Reply::Done(first, _) => {
@@ -54,7 +54,7 @@ pub fn tell_first(reply: Reply, told: &mut usize) -> u32
 // Of a call that tells both numbers.
 pub fn tell_both(reply: Reply, one: &mut usize, two: &mut usize) -> u32
     ensures { λ r. ⌜ (r ≡ replyNumber reply)
-        × (now (one .exit) ≡ firstOf reply (now (one .entry)))
+        × (now (one .exit) ≡ firstTold reply (now (one .entry)))
         × (now (two .exit) ≡ secondOf reply (now (two .entry))) ⌝ }
 {
     match reply {

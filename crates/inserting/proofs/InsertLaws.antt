@@ -21,7 +21,7 @@ use Rattle.keysets.specs.KeySets.{Sets}
 use Rattle.paths.specs.Insert.{St}
 use Rattle.layout.specs.Layout.{signatureOf, usedOf, withTerm}
 use Rattle.layout.specs.Tables.{Tables, held, ample}
-use Rattle.termkeys.specs.Fill.{tables, Both, both, insFill}
+use Rattle.termkeys.specs.Fill.{tables, Both, tablesAnd, insFill}
 use Rattle.calls.specs.declared.Reply.the-variants as Reply
 use Rattle.calls.specs.Outcome.{outcome, told}
 use Rattle.store.specs.Tables.{upsOf, endsOf, Outlined, noNumbers, roomFor, withKeys, leastFrom, freeSlot, renewed, insertedAt}
@@ -89,7 +89,7 @@ module _ (T : Tables) (sig t : List ℕ) (k : Checked) (a : ample T ≡ true) (g
       insert-crowded q = out-by Refusal.Keys (to-room false q)
 
       pub insert-done : (ks b′ u′ l′ k′ c′ d′ e′ f′ ws vs : List ℕ) → r ≡ true
-          → both (tables k′ l′ c′ d′ e′ f′) ks ≡ insFill (tables (T .link) (T .label) (T .s0) (T .s1) (T .s2) (T .s3)) (replicate 32 0) s 0 (take n us) (take n es)
+          → tablesAnd (tables k′ l′ c′ d′ e′ f′) ks ≡ insFill (tables (T .link) (T .label) (T .s0) (T .s1) (T .s2) (T .s3)) (replicate 32 0) s 0 (take n us) (take n es)
           → b′ ≡ withTerm (T .bytes) s t → ws ≡ usedOf (T .used) → vs ≡ inserted ws s → u′ ≡ sets (T .used) 0 (usedOf vs)
           → outcome (Reply.Done s 0) (held b′ u′ l′ k′ c′ d′ e′ f′) [] ≡ told [] (inserting T t)
       unfolding inserting insertedAt withKeys noNumbers

@@ -11,9 +11,10 @@ use lib.ListN.{length, getD, set, length-map}
 use Rattle.theory.specs.Items.{item16, items16, code-sym}
 use Rattle.theory.specs.Nodes.{Begins, begins-at, begins-args}
 use Rattle.joining.specs.Classes.{swap, reps, join-falls}
-use Rattle.joining.specs.Masks.{bit, On, spread}
+use Rattle.joining.specs.Masks.{On, spread}
+use Rattle.laws.specs.Digits.{bit}
 use Rattle.joining.specs.Push.{Pushed}
-use Rattle.joining.specs.Run.{Given, Led, Run, run-skip, run-merge}
+use Rattle.joining.specs.Run.{Given, Led, UnifierState, run-skip, run-merge}
 use Rattle.laws.specs.Sizes.{variableBase}
 use Rattle.terms.specs.Terms.{arity}
 
@@ -50,13 +51,13 @@ pub args-begin : (sig pool : List ℕ) → Given sig pool → (p : ℕ) → p < 
 args-begin sig pool G p b a = begins-args (arity sig) (items16 pool) (getD pool p 0) p (omega (arith, length-map pool item16)) (code-sym pool p a)
     (begins-at (arity sig) (items16 pool) (G .count) p (G .terms) (omega (arith, length-map pool item16)))
 
-module _ (sig pool : List ℕ) (G : Given sig pool) (root : ℕ) (K : List ℕ) (n : ℕ) (tab ms cls : List ℕ) (v : Run sig pool root K (n + 1) tab ms cls) (p r : ℕ)
+module _ (sig pool : List ℕ) (G : Given sig pool) (root : ℕ) (K : List ℕ) (n : ℕ) (tab ms cls : List ℕ) (v : UnifierState sig pool root K (n + 1) tab ms cls) (p r : ℕ)
     (dp : Led tab pool (getD K n 0 / 64) p) (dr : Led tab pool (getD K n 0 % 64) r) (a : getD pool p 0 < variableBase) (e : getD pool p 0 ≡ getD pool r 0)
     (cls′ K′ : List ℕ) (n′ : ℕ) (m : Merged sig pool cls cls′ K K′ n p r n′) where
-  pub run-merged : Run sig pool root K′ n′ tab ms cls′
+  pub run-merged : UnifierState sig pool root K′ n′ tab ms cls′
   run-merged = go (ℕ-discrete (getD cls p 0) (getD cls r 0))
     where
-      go : Dec (getD cls p 0 ≡ getD cls r 0) → Run sig pool root K′ n′ tab ms cls′
+      go : Dec (getD cls p 0 ≡ getD cls r 0) → UnifierState sig pool root K′ n′ tab ms cls′
       go (yes q) = let s = m .skip q in rw (s .0, s .1, s .2) (run-skip sig pool G root K n tab ms cls v p r dp dr q)
       go (no d) = let j = m .join d in rw (j .0, j .1) (run-merge sig pool G root K n tab ms cls v p r dp dr a e d K′ (j .2 .0) (j .2 .1) (j .2 .2))
 

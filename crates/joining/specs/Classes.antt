@@ -10,10 +10,7 @@ use native.Mathlib.Omega.{arith}
 use lib.Dec.{eqb}
 use lib.ListN.{length, getD, length-map}
 use borrow.Author.Tests.{eqb-true, eqb-false}
-
-abbrev pub pick {ℓ} : {A : Type ℓ} → Bool → A → A → A
-pick true a b = a
-pick false a b = b
+use Rattle.laws.specs.Choice.{pick}
 
 unfoldable pub swap : ℕ → ℕ → ℕ → ℕ
 swap from to x = pick (eqb x from) to x

@@ -9,9 +9,9 @@ use native.Mathlib.Omega.{arith}
 use lib.ListN.{getD, take}
 use Rattle.theory.specs.Flat.{Item, sy}
 use Rattle.theory.specs.Subst.{app, Sub}
-use Rattle.theory.specs.Unify.{Bind, full, Solves, Good, Values, full-sub, solved, absorbs}
+use Rattle.theory.specs.Unify.{Bind, full, Solves, GoodBindings, Values, full-sub, solved, absorbs}
 use Rattle.theory.specs.Canon.{Mgu}
-use Rattle.joining.specs.Prefix.{Same, same-less, same-cons, same-all}
+use Rattle.joining.specs.Prefix.{SameFront, same-less, same-cons, same-all}
 
 -- val: the term of a node; s and t: what is to be made the same
 module _ (ar : ℕ → ℕ) (val : ℕ → List Item) (s t : List Item) where
@@ -20,20 +20,21 @@ module _ (ar : ℕ → ℕ) (val : ℕ → List Item) (s t : List Item) where
   GoalHolds σ e = app σ (val (e / 64)) ≡ app σ (val (e % 64))
 
   abbrev pub HoldsTo : (ℕ → List Item) → ℕ → ℕ → Type 0
-  HoldsTo σ m e = Same m (app σ (val (e / 64))) (app σ (val (e % 64)))
+  HoldsTo σ m e = SameFront m (app σ (val (e / 64))) (app σ (val (e % 64)))
 
   abbrev pub Pend : (ℕ → List Item) → List ℕ → ℕ → ℕ → Type 0
   Pend σ K n m = (i : ℕ) → i < n → HoldsTo σ m (getD K i 0)
 
   abbrev pub Alike : (ℕ → List Item) → List ℕ → ℕ → Type 0
-  Alike σ cls m = (a b : ℕ) → getD cls a 0 ≡ getD cls b 0 → a < 64 → b < 64 → Same m (app σ (val a)) (app σ (val b))
+  Alike σ cls m = (a b : ℕ) → getD cls a 0 ≡ getD cls b 0 → a < 64 → b < 64
+      → SameFront m (app σ (val a)) (app σ (val b))
 
   -- B the bindings, K the stack of n pairs, cls the classes
   pub record Goal (B : List Bind) (K : List ℕ) (n : ℕ) (cls : List ℕ) : Type 0 where
     pub complete : (σ : ℕ → List Item) → Sub ar σ → app σ s ≡ app σ t → Solves σ B
         × ((i : ℕ) → i < n → GoalHolds σ (getD K i 0))
     pub sound : (σ : ℕ → List Item) → Solves σ B → (m : ℕ) → Pend σ K n m → Alike σ cls (suc m)
-        × Same m (app σ s) (app σ t)
+        × SameFront m (app σ s) (app σ t)
 
   -- the top pair holds for every solution of the bindings, which may have grown
   module _ (B : List Bind) (K : List ℕ) (n : ℕ) (cls : List ℕ) (g : Goal B K (n + 1) cls) where
@@ -55,13 +56,13 @@ module _ (ar : ℕ → ℕ) (val : ℕ → List Item) (s t : List Item) where
     module _ (a b : ℕ) (al : a < 64) (bl : b < 64)
         (ea : (σ : ℕ → List Item) → Solves σ B → app σ (val (getD K n 0 / 64)) ≡ app σ (val a))
         (eb : (σ : ℕ → List Item) → Solves σ B → app σ (val (getD K n 0 % 64)) ≡ app σ (val b)) where
-      top : (σ : ℕ → List Item) → Solves σ B → (m : ℕ) → Same m (app σ (val a)) (app σ (val b)) → HoldsTo σ m (getD K n 0)
+      top : (σ : ℕ → List Item) → Solves σ B → (m : ℕ) → SameFront m (app σ (val a)) (app σ (val b)) → HoldsTo σ m (getD K n 0)
       top σ z m e = ap (take m) (ea σ z) ∙ e ∙ ap (take m) (sym (eb σ z))
 
       top-all : (σ : ℕ → List Item) → Solves σ B → app σ (val a) ≡ app σ (val b) → GoalHolds σ (getD K n 0)
       top-all σ z e = ea σ z ∙ e ∙ sym (eb σ z)
 
-      skip-sound : getD cls a 0 ≡ getD cls b 0 → (σ : ℕ → List Item) → Solves σ B → (m : ℕ) → Pend σ K n m → Alike σ cls (suc m) × Same m (app σ s) (app σ t)
+      skip-sound : getD cls a 0 ≡ getD cls b 0 → (σ : ℕ → List Item) → Solves σ B → (m : ℕ) → Pend σ K n m → Alike σ cls (suc m) × SameFront m (app σ s) (app σ t)
       skip-sound c σ z zero p = g .sound σ z zero (pend-more σ zero p (top σ z zero refl))
       skip-sound c σ z (suc m) p =
           let ih = skip-sound c σ z m (λ i l. same-less m (suc m) _ _ (omega arith) (p i l)) in
@@ -78,11 +79,11 @@ module _ (ar : ℕ → ℕ) (val : ℕ → List Item) (s t : List Item) where
         pub each : (i : ℕ) → i < 64
             → ((getD cls i 0 ≡ getD cls a 0) × (getD cls′ i 0 ≡ getD cls b 0)) ⊎ (getD cls′ i 0 ≡ getD cls i 0)
 
-      join-alike : (σ : ℕ → List Item) (m : ℕ) (cls′ : List ℕ) → Joined cls′ → Alike σ cls m → Same m (app σ (val a)) (app σ (val b)) → Alike σ cls′ m
+      join-alike : (σ : ℕ → List Item) (m : ℕ) (cls′ : List ℕ) → Joined cls′ → Alike σ cls m → SameFront m (app σ (val a)) (app σ (val b)) → Alike σ cls′ m
       join-alike σ m cls′ j h e c d q cl dl = go (j .each c cl) (j .each d dl)
         where
           go : ((getD cls c 0 ≡ getD cls a 0) × (getD cls′ c 0 ≡ getD cls b 0)) ⊎ (getD cls′ c 0 ≡ getD cls c 0)
-              → ((getD cls d 0 ≡ getD cls a 0) × (getD cls′ d 0 ≡ getD cls b 0)) ⊎ (getD cls′ d 0 ≡ getD cls d 0) → Same m (app σ (val c)) (app σ (val d))
+              → ((getD cls d 0 ≡ getD cls a 0) × (getD cls′ d 0 ≡ getD cls b 0)) ⊎ (getD cls′ d 0 ≡ getD cls d 0) → SameFront m (app σ (val c)) (app σ (val d))
           go (inl x) (inl y) = h c d (x .0 ∙ sym (y .0)) cl dl
           go (inl x) (inr y) = h c a (x .0) cl al ∙ e ∙ h b d (sym (x .1) ∙ q ∙ y) bl dl
           go (inr x) (inl y) = h c b (sym x ∙ q ∙ y .1) cl bl ∙ sym e ∙ h a d (sym (y .0)) al dl
@@ -90,7 +91,7 @@ module _ (ar : ℕ → ℕ) (val : ℕ → List Item) (s t : List Item) where
 
       pub merged : (f : ℕ) (u v : List Item) → val a ≡ sy f ∷ u → val b ≡ sy f ∷ v → (cls′ K′ : List ℕ) (n′ : ℕ) → Joined cls′
           → ((σ : ℕ → List Item) → Sub ar σ → app σ u ≡ app σ v → ((i : ℕ) → i < n → GoalHolds σ (getD K i 0)) → (i : ℕ) → i < n′ → GoalHolds σ (getD K′ i 0))
-          → ((σ : ℕ → List Item) (m : ℕ) → Pend σ K′ n′ m → Pend σ K n m × Same m (app σ u) (app σ v))
+          → ((σ : ℕ → List Item) (m : ℕ) → Pend σ K′ n′ m → Pend σ K n m × SameFront m (app σ u) (app σ v))
           → Goal B K′ n′ cls′
       merged f u v pa pb cls′ K′ n′ j pc ps = record {
         complete = λ σ w e. (
@@ -100,7 +101,7 @@ module _ (ar : ℕ → ℕ) (val : ℕ → List Item) (s t : List Item) where
             (h .0, pc σ w k′ (λ i l. h .1 i (omega arith))));
         sound = λ σ z m p. (
             let q = ps σ m p in
-            let r : Same (suc m) (app σ (val a)) (app σ (val b)) = rw (pa, pb) (same-cons m (sy f) (app σ u) (app σ v) (q .1)) in
+            let r : SameFront (suc m) (app σ (val a)) (app σ (val b)) = rw (pa, pb) (same-cons m (sy f) (app σ u) (app σ v) (q .1)) in
             let h = g .sound σ z m (pend-more σ m (q .0) (top σ z m (same-less m (suc m) _ _ (omega arith) r))) in
             (join-alike σ (suc m) cls′ j (h .0) r, h .1));
       }
@@ -115,7 +116,7 @@ module _ (ar : ℕ → ℕ) (val : ℕ → List Item) (s t : List Item) where
     );
   }
 
-  pub finished : (B : List Bind) (K cls : List ℕ) → Good B → Values ar B → Goal B K 0 cls → Mgu ar s t (full B)
+  pub finished : (B : List Bind) (K cls : List ℕ) → GoodBindings B → Values ar B → Goal B K 0 cls → Mgu ar s t (full B)
   finished B K cls g v h = record {
     sub = full-sub ar B v;
     unifies = same-all (app (full B) s) (app (full B) t) (λ m. h .sound (full B) (solved B g) m (λ i b. absurd (omega arith)) .1);

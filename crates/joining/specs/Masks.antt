@@ -1,15 +1,13 @@
 -- Serves SCOPE.md, 'The solver's record': sets of variables in one word, for the occurs check.
-use Prim.Native.Nat.{ℕ, suc, _+_, _-_, _*_, _/_, _%_, _^_, _<_, max}
+use Prim.Native.Nat.{ℕ, _+_, _*_, _/_, _^_, _<_}
 use mathlib.Core.Path.{_≡_, refl, ap, _∙_}
 use mathlib.Core.Logic.{_⊎_, inl, inr, _≢_, _↔_}
 use mathlib.Core.Bool.{Bool, true, false}
 use mathlib.Core.List.{List, [], _∷_, map}
-use native.Mathlib.Nat.{mod-eq-of-lt, div-eq-of-lt, one-mul, pow-suc, mul-mod-left}
-use native.Mathlib.Decide.{decLt, ℕ-discrete}
+use native.Mathlib.Nat.{div-eq-of-lt}
+use native.Mathlib.Decide.{ℕ-discrete}
 use native.Mathlib.Omega.{arith}
-use lib.Bits.{bitOr, or-shr, or-step}
-use lib.Pow.{pow-lt, pow-add, shl-shr}
-use lib.Arith.{digits-mod}
+use lib.Bits.{bitOr}
 use lib.Dec.{eqb}
 use lib.ListN.{length, getD}
 use borrow.Author.Tests.{eqb-true, eqb-false}
@@ -17,29 +15,8 @@ use Rattle.theory.specs.Flat.{Item, sy, va}
 use Rattle.theory.specs.Subst.{vars, app, Occurs, in-app, in-app-of}
 use Rattle.theory.specs.Unify.{one, one-same, one-other, Bind, _:=_, full, Unbound}
 use Rattle.laws.specs.Choice.{pick}
+use Rattle.laws.specs.Digits.{bit, bit-or, bit-pow-same, bit-pow-other}
 use Rattle.joining.specs.Classes.{getD-map}
-
-abbrev pub bit : ℕ → ℕ → ℕ
-bit w i = w / 2 ^ i % 2
-
-pub one-shl : (k : ℕ) → k < 64 → (1 * 2 ^ k) % 2 ^ 64 ≡ 2 ^ k
-one-shl k h = rw one-mul (mod-eq-of-lt (pow-lt h))
-
-bit-or : (a b i : ℕ) → bit (bitOr a b) i ≡ max (bit a i) (bit b i)
-bit-or a b i = rw (or-shr, or-step) (digits-mod _ (omega arith))
-
-bit-pow-same : (s : ℕ) → bit (2 ^ s) s ≡ 1
-bit-pow-same s = let e = rw one-mul at (shl-shr 1 s) in rw e
-
-bit-pow-other : (s i : ℕ) → (i ≡ s → ⊥) → bit (2 ^ s) i ≡ 0
-bit-pow-other s i h = go (decLt s i)
-  where
-    go : Dec (s < i) → bit (2 ^ s) i ≡ 0
-    go (yes l) = rw (div-eq-of-lt (pow-lt l))
-    go (no n) =
-        let e : s ≡ suc (s - i - 1) + i = omega arith in
-        let f : 2 ^ s ≡ 2 ^ suc (s - i - 1) * 2 ^ i = ap (λ (x : ℕ). 2 ^ x) e ∙ pow-add 2 (suc (s - i - 1)) i in
-        rw (f, shl-shr, pow-suc) (mul-mod-left _ 2)
 
 -- z is in the set w
 abbrev pub On : ℕ → ℕ → Type 0
@@ -143,27 +120,27 @@ in-one x z v w n = ((λ h. let r = in-app (one x v) z w h in to (r .0) (r .1) (r
     from (inr i) = in-app-of (one x v) z x w (i .0) (rw (one-same x v) (i .1))
 
 -- the set of each variable: the variables with no binding in its value
-abbrev pub Sets : List Bind → List ℕ → Type 0
-Sets B ms = (y z : ℕ) → y < 64 → Unbound z B → On z (getD ms y 0) ↔ Occurs z (full B y)
+abbrev pub VariableSets : List Bind → List ℕ → Type 0
+VariableSets B ms = (y z : ℕ) → y < 64 → Unbound z B → On z (getD ms y 0) ↔ Occurs z (full B y)
 
-pub sets-start : (ms : List ℕ) → ((y : ℕ) → y < 64 → getD ms y 0 ≡ 2 ^ y) → Sets [] ms
+pub sets-start : (ms : List ℕ) → ((y : ℕ) → y < 64 → getD ms y 0 ≡ 2 ^ y) → VariableSets [] ms
 sets-start ms h y z b n = ((λ o. inl (on-one z y .0 (rw (h y b) at o))), λ i. rw (h y b) (on-one z y .1 (is i)))
   where
     is : Occurs z (vars y) → z ≡ y
     is (inl e) = e
 
-abbrev pub Named : List Item → Type 0
-Named l = (y : ℕ) → Occurs y l → y < 64
+abbrev pub WrittenOnly : List Item → Type 0
+WrittenOnly l = (y : ℕ) → Occurs y l → y < 64
 
 -- the set of a term
-pub sets-term : (B : List Bind) (ms : List ℕ) → Sets B ms → (l : List Item) → Named l → (z : ℕ) → Unbound z B → On z (maskOf ms 0 l) ↔ Occurs z (app (full B) l)
+pub sets-term : (B : List Bind) (ms : List ℕ) → VariableSets B ms → (l : List Item) → WrittenOnly l → (z : ℕ) → Unbound z B → On z (maskOf ms 0 l) ↔ Occurs z (app (full B) l)
 sets-term B ms s l nm z n = ((λ o. to (on-mask ms 0 z l .0 o)), λ i. let r = in-app (full B) z l i in on-mask ms 0 z l .1 (inr (r .0, r .1, s (r .0) z (nm (r .0) (r .1)) n .1 (r .2))))
   where
     to : On z 0 ⊎ ((y : ℕ) × Occurs y l × On z (getD ms y 0)) → Occurs z (app (full B) l)
     to (inl h) = absurd (on-none z h)
     to (inr h) = in-app-of (full B) z (h .0) l (h .1) (s (h .0) z (nm (h .0) (h .1)) n .0 (h .2))
 
-pub sets-bind : (B : List Bind) (ms : List ℕ) → length ms ≡ 64 → Sets B ms → (x : ℕ) (u : List Item) → Unbound x B → Named u → Sets ((x := u) ∷ B) (map (spread x (maskOf ms 0 u)) ms)
+pub sets-bind : (B : List Bind) (ms : List ℕ) → length ms ≡ 64 → VariableSets B ms → (x : ℕ) (u : List Item) → Unbound x B → WrittenOnly u → VariableSets ((x := u) ∷ B) (map (spread x (maskOf ms 0 u)) ms)
 sets-bind B ms e s x u nx nm y z b n = rw (getD-map (spread x (maskOf ms 0 u)) ms y (omega arith)) (
   (λ o. in-one x z (app (full B) u) (full B y) (n .0) .1 (to (on-spread x (maskOf ms 0 u) (getD ms y 0) z .0 o))),
   (λ i. on-spread x (maskOf ms 0 u) (getD ms y 0) z .1 (from (in-one x z (app (full B) u) (full B y) (n .0) .0 i))),

@@ -9,8 +9,8 @@ use lib.ListN.{length, getD, set, length-set}
 use lib.Seq.{getD-set-same, getD-set-other}
 use Rattle.theory.specs.Flat.{Item, readable}
 use Rattle.theory.specs.Subst.{app, app-append, Sub, app-terms}
-use Rattle.theory.specs.Nodes.{args, args-more, val, Next, Begins, begins-length, begins-next, begins-term}
-use Rattle.joining.specs.Prefix.{Same, same-append}
+use Rattle.theory.specs.Nodes.{args, args-more, val, NextNode, Begins, begins-length, begins-next, begins-term}
+use Rattle.joining.specs.Prefix.{SameFront, same-append}
 use Rattle.joining.specs.Goal.{GoalHolds, HoldsTo}
 
 module _ (ar : ℕ → ℕ) where
@@ -32,8 +32,8 @@ module _ (ar : ℕ → ℕ) where
       pub rl : r ≤ length P
       pub sound : (σ : ℕ → List Item) (m : ℕ)
           → ((x : ℕ) → i ≤ x → x < a → HoldsTo ar (val ar P) [] [] σ m (getD K (n + x) 0))
-          → Same m (app σ (args ar P i l)) (app σ (args ar P i r))
-          → Same m (app σ (args ar P a p)) (app σ (args ar P a q))
+          → SameFront m (app σ (args ar P i l)) (app σ (args ar P i r))
+          → SameFront m (app σ (args ar P a p)) (app σ (args ar P a q))
       pub complete : (σ : ℕ → List Item) → Sub ar σ → app σ (args ar P a p) ≡ app σ (args ar P a q)
           → (app σ (args ar P i l) ≡ app σ (args ar P i r))
           × ((x : ℕ) → i ≤ x → x < a → GoalHolds ar (val ar P) [] [] σ (getD K (n + x) 0))
@@ -52,7 +52,7 @@ module _ (ar : ℕ → ℕ) where
     }
 
     module _ (K₀ K : List ℕ) (n a p q i l r l′ r′ e : ℕ) (h : Pushed K₀ K n a p q (i + 1) l r) (il : i < a) (fits : n + i < length K)
-        (el : e / 64 ≡ l) (er : e % 64 ≡ r) (nl : Next ar P l l′) (nr : Next ar P r r′) (lb : l′ ≤ length P) (rb : r′ ≤ length P) where
+        (el : e / 64 ≡ l) (er : e % 64 ≡ r) (nl : NextNode ar P l l′) (nr : NextNode ar P r r′) (lb : l′ ≤ length P) (rb : r′ ≤ length P) where
       here : getD (set K (n + i) e) (n + i) 0 ≡ e
       here = getD-set-same K (n + i) e 0 fits
 
@@ -105,5 +105,5 @@ module _ (ar : ℕ → ℕ) where
             (t .1, at (GoalHolds ar (val ar P) [] [] σ) (rw (el, er) (t .0)) (k .1)));
       }
         where
-          pair : (σ : ℕ → List Item) (m : ℕ) → ((x : ℕ) → i ≤ x → x < a → HoldsTo ar (val ar P) [] [] σ m (getD (set K (n + i) e) (n + x) 0)) → Same m (app σ (val ar P l)) (app σ (val ar P r))
+          pair : (σ : ℕ → List Item) (m : ℕ) → ((x : ℕ) → i ≤ x → x < a → HoldsTo ar (val ar P) [] [] σ m (getD (set K (n + i) e) (n + x) 0)) → SameFront m (app σ (val ar P l)) (app σ (val ar P r))
           pair σ m f = rw (el, er) at (rw here at (f i (omega arith) il))

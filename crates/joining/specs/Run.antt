@@ -10,13 +10,14 @@ use lib.ListN.{length, getD, drop, set, length-set, length-map}
 use lib.Seq.{getD-set-same, getD-set-other}
 use Rattle.theory.specs.Flat.{Item, sy, va, Terms}
 use Rattle.theory.specs.Subst.{vars, app, Occurs, Sub, app-terms, in-left}
-use Rattle.theory.specs.Unify.{Bind, _:=_, full, Solves, Good, Values, full-sub, Unbound, unbound, circular, Has, solves-has}
+use Rattle.theory.specs.Unify.{Bind, _:=_, full, Solves, GoodBindings, Values, full-sub, Unbound, unbound, circular}
+use Rattle.theory.specs.Unify.{Has, solves-has}
 use Rattle.theory.specs.Canon.{Least, Mgu, least-step}
 use Rattle.theory.specs.Cut.{first, rest, first-rest}
 use Rattle.theory.specs.Items.{item16, items16, code-sym, code-var}
 use Rattle.joining.specs.Goal.{GoalHolds, Goal, settled, skipped, merged, begin, finished}
 use Rattle.joining.specs.Classes.{Classes, classes-less, classes-start, join-each, join-classes, swap}
-use Rattle.joining.specs.Masks.{On, maskOf, spread, Sets, Named, sets-term, sets-bind, sets-start}
+use Rattle.joining.specs.Masks.{On, maskOf, spread, VariableSets, WrittenOnly, sets-term, sets-bind, sets-start}
 use Rattle.theory.specs.Nodes.{args, args-none, val, val-sym, val-var, begins-at, begins-term}
 use Rattle.joining.specs.Push.{Inside, Pushed}
 use Rattle.laws.specs.Sizes.{variableBase, writtenEnd}
@@ -32,7 +33,7 @@ pub record Given (sig pool : List ℕ) : Type 0 where
 
 -- the table of bindings: 0, or one more than the node that the variable is bound to; a variable leads to a symbol or
 -- a smaller variable
-pub record Shape (tab pool : List ℕ) : Type 0 where
+pub record BindingTable (tab pool : List ℕ) : Type 0 where
   pub many : length tab ≡ 64
   pub inside : (y : ℕ) → getD tab y 0 ≤ length pool
   pub down : (x p : ℕ) → getD tab x 0 ≡ suc p → getD pool p 0 < variableBase + x
@@ -41,12 +42,12 @@ pub record Shape (tab pool : List ℕ) : Type 0 where
 abbrev pub term : List ℕ → List ℕ → ℕ → List Item
 term sig pool p = val (arity sig) (items16 pool) p
 
-abbrev pub Entry : List ℕ → List ℕ → List Bind → ℕ → ℕ → Type 0
-Entry sig pool B y zero = Unbound y B
-Entry sig pool B y (suc p) = Has y (term sig pool p) B
+abbrev pub BindingEntry : List ℕ → List ℕ → List Bind → ℕ → ℕ → Type 0
+BindingEntry sig pool B y zero = Unbound y B
+BindingEntry sig pool B y (suc p) = Has y (term sig pool p) B
 
 abbrev pub Tab : List ℕ → List ℕ → List ℕ → List Bind → Type 0
-Tab sig pool tab B = (y : ℕ) → y < 64 → Entry sig pool B y (getD tab y 0)
+Tab sig pool tab B = (y : ℕ) → y < 64 → BindingEntry sig pool B y (getD tab y 0)
 
 -- r is where bindings lead from p
 pub record Led (tab pool : List ℕ) (p r : ℕ) : Type 0 where
@@ -105,12 +106,12 @@ zeros-all [] h = refl
 zeros-all (a ∷ tab) h = let e : a ≡ 0 = h 0 in rw e (omega (arith, zeros-all tab (λ y. h (suc y))))
 
 -- the bindings that the tables stand for
-pub record Held (sig pool tab ms : List ℕ) (B : List Bind) : Type 0 where
-  pub good : Good B
+pub record BindingsHeld (sig pool tab ms : List ℕ) (B : List Bind) : Type 0 where
+  pub good : GoodBindings B
   pub values : Values (arity sig) B
   pub least : Least (full B)
   pub table : Tab sig pool tab B
-  pub sets : Sets B ms
+  pub sets : VariableSets B ms
   pub many : length ms ≡ 64
   pub count : length B + zeros tab ≡ 64
 
@@ -118,11 +119,11 @@ module _ (sig pool : List ℕ) (G : Given sig pool) where
   pub node-term : (p : ℕ) → p < length pool → Terms (arity sig) 1 (term sig pool p)
   node-term p b = begins-term (arity sig) (items16 pool) 1 p (begins-at (arity sig) (items16 pool) (G .count) p (G .terms) (omega (arith, length-items pool)))
 
-  named-list : (l : List ℕ) → ((p : ℕ) → p < length l → getD l p 0 < writtenEnd) → Named (items16 l)
+  named-list : (l : List ℕ) → ((p : ℕ) → p < length l → getD l p 0 < writtenEnd) → WrittenOnly (items16 l)
   named-list [] h y i = absurd i
   named-list (c ∷ l) h y i = go (decLe variableBase c) i (named-list l (λ p b. h (suc p) (omega arith)))
     where
-      go : Dec (variableBase ≤ c) → Occurs y (item16 c ∷ items16 l) → Named (items16 l) → y < 64
+      go : Dec (variableBase ≤ c) → Occurs y (item16 c ∷ items16 l) → WrittenOnly (items16 l) → y < 64
       go (yes v) j ih = at (rw (code-var (c ∷ []) 0 v) at j)
         where
           at : (y ≡ c - variableBase) ⊎ Occurs y (items16 l) → y < 64
@@ -136,12 +137,12 @@ module _ (sig pool : List ℕ) (G : Given sig pool) where
   in-drop y (suc p) (sy f ∷ l) i = in-drop y p l i
   in-drop y (suc p) (va x ∷ l) i = inr (in-drop y p l i)
 
-  pub node-named : (p : ℕ) → Named (term sig pool p)
+  pub node-named : (p : ℕ) → WrittenOnly (term sig pool p)
   node-named p y i = named-list pool (G .named) y (in-drop y p (items16 pool)
       (rw (first-rest (arity sig) 1 (drop p (items16 pool))) at (in-left y (first (arity sig) 1 (drop p (items16 pool))) (rest (arity sig) 1 (drop p (items16 pool))) i)))
 
   -- a binding of x to the node u
-  module _ (tab ms : List ℕ) (B : List Bind) (h : Held sig pool tab ms B) (S : Shape tab pool) (x u : ℕ) (xl : x < 64) (free : getD tab x 0 ≡ 0)
+  module _ (tab ms : List ℕ) (B : List Bind) (h : BindingsHeld sig pool tab ms B) (S : BindingTable tab pool) (x u : ℕ) (xl : x < 64) (free : getD tab x 0 ≡ 0)
       (ul : u < length pool) (less : getD pool u 0 < variableBase + x) (ends : variableBase ≤ getD pool u 0 → getD tab (getD pool u 0 - variableBase) 0 ≡ 0) where
     unbound-x : Unbound x B
     unbound-x = rw free at (h .table x xl)
@@ -163,11 +164,11 @@ module _ (sig pool : List ℕ) (G : Given sig pool) where
             let q : app (full B) (sy (getD pool u 0) ∷ args (arity sig) (items16 pool) (arity sig (getD pool u 0)) (u + 1)) ≡ vars y = sym (ap (app (full B)) k) ∙ e in
             let c : _≡_ {A = ℕ} 0 1 = cc in absurd (omega arith)
 
-    entry-old : (v : List Item) (y e : ℕ) → x ≢ y → Entry sig pool B y e → Entry sig pool ((x := v) ∷ B) y e
+    entry-old : (v : List Item) (y e : ℕ) → x ≢ y → BindingEntry sig pool B y e → BindingEntry sig pool ((x := v) ∷ B) y e
     entry-old v y zero n k = (n, k)
     entry-old v y (suc p) n k = inr k
 
-    pub held-bind : (On x (maskOf ms 0 (term sig pool u)) → ⊥) → Held sig pool (set tab x (u + 1)) (map (spread x (maskOf ms 0 (term sig pool u))) ms) ((x := term sig pool u) ∷ B)
+    pub held-bind : (On x (maskOf ms 0 (term sig pool u)) → ⊥) → BindingsHeld sig pool (set tab x (u + 1)) (map (spread x (maskOf ms 0 (term sig pool u))) ms) ((x := term sig pool u) ∷ B)
     held-bind o = record {
       good = (unbound-x, (λ i. o (sets-term B ms (h .sets) (term sig pool u) (node-named u) x unbound-x .1 i)), h .good);
       values = (node-term u ul, h .values);
@@ -178,11 +179,11 @@ module _ (sig pool : List ℕ) (G : Given sig pool) where
       count = omega (arith, h .count, zeros-set tab x u (omega (arith, S .many)) free);
     }
       where
-        at : (y : ℕ) → y < 64 → Dec (x ≡ y) → Entry sig pool ((x := term sig pool u) ∷ B) y (getD (set tab x (u + 1)) y 0)
+        at : (y : ℕ) → y < 64 → Dec (x ≡ y) → BindingEntry sig pool ((x := term sig pool u) ∷ B) y (getD (set tab x (u + 1)) y 0)
         at y b (yes e) = rw (← e, getD-set-same tab x (u + 1) 0 (omega (arith, S .many)), add-one) (inl (refl, refl))
         at y b (no n) = rw (getD-set-other tab x y (u + 1) 0 (λ e. n (sym e))) (entry-old (term sig pool u) y (getD tab y 0) n (h .table y b))
 
-    pub shape-bind : Shape (set tab x (u + 1)) pool
+    pub shape-bind : BindingTable (set tab x (u + 1)) pool
     shape-bind = record {
       many = length-set tab x (u + 1) ∙ S .many;
       inside = λ y. in₁ y (ℕ-discrete x y);
@@ -227,30 +228,30 @@ None sig pool root = (σ : ℕ → List Item) → Sub (arity sig) σ → app σ 
 -- bindings that make them the same, as general as can be, smallest variables first
 pub record Unified (sig pool : List ℕ) (root : ℕ) (tab : List ℕ) : Type 0 where
   pub binds : List Bind
-  pub good : Good binds
+  pub good : GoodBindings binds
   pub table : Tab sig pool tab binds
-  pub shape : Shape tab pool
+  pub shape : BindingTable tab pool
   pub few : length binds ≤ 64
   pub mgu : Mgu (arity sig) (term sig pool 0) (term sig pool root) (full binds)
   pub least : Least (full binds)
 
 -- the answer's code: 0 where they unify, 1 and 2 where they do not
-abbrev pub Ended : List ℕ → List ℕ → ℕ → ℕ → List ℕ → Type 0
-Ended sig pool root code tab = (code ≡ 0 → Unified sig pool root tab) × (code ≢ 0 → None sig pool root)
+abbrev pub UnifierEnds : List ℕ → List ℕ → ℕ → ℕ → List ℕ → Type 0
+UnifierEnds sig pool root code tab = (code ≡ 0 → Unified sig pool root tab) × (code ≢ 0 → None sig pool root)
 
 -- the loop's state
-pub record Run (sig pool : List ℕ) (root : ℕ) (K : List ℕ) (n : ℕ) (tab ms cls : List ℕ) : Type 0 where
+pub record UnifierState (sig pool : List ℕ) (root : ℕ) (K : List ℕ) (n : ℕ) (tab ms cls : List ℕ) : Type 0 where
   pub binds : List Bind
-  pub held : Held sig pool tab ms binds
+  pub held : BindingsHeld sig pool tab ms binds
   pub goal : Goal (arity sig) (term sig pool) (term sig pool 0) (term sig pool root) binds K n cls
-  pub shape : Shape tab pool
+  pub shape : BindingTable tab pool
   pub classes : Classes n cls
   pub deep : length K ≡ 512
   pub inside : (i : ℕ) → i < n → Inside (arity sig) (items16 pool) (getD K i 0)
 
 module _ (sig pool : List ℕ) (G : Given sig pool) (root : ℕ) where
   pub run-start : (K tab ms cls : List ℕ) → length K ≡ 512 → root < length pool → getD K 0 0 ≡ root → ((y : ℕ) → getD tab y 0 ≡ 0) → length tab ≡ 64
-      → length ms ≡ 64 → ((y : ℕ) → y < 64 → getD ms y 0 ≡ 2 ^ y) → length cls ≡ 64 → ((i : ℕ) → i < 64 → getD cls i 0 ≡ i) → Run sig pool root K 1 tab ms cls
+      → length ms ≡ 64 → ((y : ℕ) → y < 64 → getD ms y 0 ≡ 2 ^ y) → length cls ≡ 64 → ((i : ℕ) → i < 64 → getD cls i 0 ≡ i) → UnifierState sig pool root K 1 tab ms cls
   run-start K tab ms cls kd rl k0 tz tl ml mz cl cz = record {
     binds = [];
     held = record { good = tt; values = tt; least = λ x y e. (let h : x ≡ y = cc in omega arith); table = λ y b. rw (tz y) tt; sets = sets-start ms mz; many = ml; count = omega (arith, zeros-all tab tz) };
@@ -262,7 +263,7 @@ module _ (sig pool : List ℕ) (G : Given sig pool) (root : ℕ) where
     inside = λ i b. (let z : i ≡ 0 = omega arith in rw (z, k0) (omega (arith, G .short, length-items pool), omega (arith, G .short, length-items pool)));
   }
 
-  pub run-end : (K tab ms cls : List ℕ) → Run sig pool root K 0 tab ms cls → Unified sig pool root tab
+  pub run-end : (K tab ms cls : List ℕ) → UnifierState sig pool root K 0 tab ms cls → Unified sig pool root tab
   run-end K tab ms cls v = record {
     binds = v .binds;
     good = v .held .good;
@@ -274,7 +275,7 @@ module _ (sig pool : List ℕ) (G : Given sig pool) (root : ℕ) where
   }
 
   -- the top pair, and where it leads
-  module _ (K : List ℕ) (n : ℕ) (tab ms cls : List ℕ) (v : Run sig pool root K (n + 1) tab ms cls) (p r : ℕ)
+  module _ (K : List ℕ) (n : ℕ) (tab ms cls : List ℕ) (v : UnifierState sig pool root K (n + 1) tab ms cls) (p r : ℕ)
       (dp : Led tab pool (getD K n 0 / 64) p) (dr : Led tab pool (getD K n 0 % 64) r) where
     solve-p : (σ : ℕ → List Item) → Solves σ (v .binds) → app σ (term sig pool (getD K n 0 / 64)) ≡ app σ (term sig pool p)
     solve-p σ s = dp .same sig (v .binds) (v .held .table) σ s
@@ -293,7 +294,7 @@ module _ (sig pool : List ℕ) (G : Given sig pool) (root : ℕ) where
     unfolding Top
     up σ s e = solve-p σ s ∙ e ∙ sym (solve-r σ s)
 
-    pub run-same : term sig pool p ≡ term sig pool r → Run sig pool root K n tab ms cls
+    pub run-same : term sig pool p ≡ term sig pool r → UnifierState sig pool root K n tab ms cls
     unfolding Top
     run-same e = record {
       binds = v .binds;
@@ -314,7 +315,7 @@ module _ (sig pool : List ℕ) (G : Given sig pool) (root : ℕ) where
         = ap (app σ) (sym (term-sym sig pool p (dp .low) a)) ∙ k ∙ ap (app σ) (term-sym sig pool r (dr .low) b) in
         d (cc)
 
-    pub run-skip : getD cls p 0 ≡ getD cls r 0 → Run sig pool root K n tab ms cls
+    pub run-skip : getD cls p 0 ≡ getD cls r 0 → UnifierState sig pool root K n tab ms cls
     run-skip e = record {
       binds = v .binds;
       held = v .held;
@@ -388,7 +389,7 @@ module _ (sig pool : List ℕ) (G : Given sig pool) (root : ℕ) where
           let h = v .goal .complete σ w₀ e in
           no-solution sig pool G tab ms (v .binds) (v .held) (v .shape) x u x-low x-free u-low less u-stop o σ w₀ (h .0) (value σ (h .0) .0 (h .1 n (omega arith)))
 
-      pub run-bind : (On x (maskOf ms 0 (term sig pool u)) → ⊥) → Run sig pool root K n (set tab x (u + 1)) (map (spread x (maskOf ms 0 (term sig pool u))) ms) cls
+      pub run-bind : (On x (maskOf ms 0 (term sig pool u)) → ⊥) → UnifierState sig pool root K n (set tab x (u + 1)) (map (spread x (maskOf ms 0 (term sig pool u))) ms) cls
       unfolding Top
       run-bind o = record {
         binds = (x := term sig pool u) ∷ v .binds;
@@ -405,7 +406,7 @@ module _ (sig pool : List ℕ) (G : Given sig pool) (root : ℕ) where
     module _ (a : getD pool p 0 < variableBase) (e : getD pool p 0 ≡ getD pool r 0) where
       pub run-merge : getD cls p 0 ≢ getD cls r 0 → (K′ : List ℕ) (l l′ : ℕ)
           → Pushed (arity sig) (items16 pool) K K′ n (arity sig (getD pool p 0)) (p + 1) (r + 1) 0 l l′
-          → Run sig pool root K′ (n + arity sig (getD pool p 0)) tab ms (map (swap (getD cls p 0) (getD cls r 0)) cls)
+          → UnifierState sig pool root K′ (n + arity sig (getD pool p 0)) tab ms (map (swap (getD cls p 0) (getD cls r 0)) cls)
       run-merge d K′ l l′ h = record {
         binds = v .binds;
         held = v .held;

@@ -7,7 +7,7 @@ ghost use Prim.Native.Nat.{_≤_, _<_};
 ghost use lib.ListN.{length};
 ghost use Rattle.theory.specs.Items.{items16};
 ghost use Rattle.theory.specs.ItemWalk.{extra};
-ghost use Rattle.theory.specs.Nodes.{Begins, Next};
+ghost use Rattle.theory.specs.Nodes.{Begins, NextNode};
 ghost use Rattle.terms.specs.Terms.{arity};
 
 // The arguments that follow the item c.
@@ -25,7 +25,7 @@ pub fn opens(sig: &[u8], c: usize) -> usize
 pub fn skip(sig: &[u8], pool: &[u16], p: usize) -> usize
     requires { ⌜ Begins (arity (now sig)) (items16 (now pool)) 1 p × (p < length (now pool))
         × (length (now pool) ≤ 64) ⌝ }
-    ensures { λ r. ⌜ Next (arity (now (sig .entry))) (items16 (now (pool .entry))) p r
+    ensures { λ r. ⌜ NextNode (arity (now (sig .entry))) (items16 (now (pool .entry))) p r
         × (r ≤ length (now (pool .entry))) ⌝ }
 {
     let mut opened: usize = 1;

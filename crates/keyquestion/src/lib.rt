@@ -14,7 +14,7 @@ ghost use lib.ListN.{length};
 ghost use Rattle.layout.specs.Tables.{held};
 ghost use Rattle.calls.specs.Outcome.{outcome, told};
 ghost use Rattle.store.specs.Tables.{endNumber, keyNumber};
-ghost use Rattle.store.specs.Calls.{asking};
+ghost use Rattle.store.specs.Calls.{keyQuestion};
 ghost use Rattle.laws.specs.Sizes.{keyLimit, linkLength};
 
 // The end of a key as its label has it: the star is 256.
@@ -58,7 +58,7 @@ pub fn with_key(
     ensures { λ r. ⌜ outcome r
         (held (now (bytes .entry)) (now (used .entry)) (now (label .entry)) (now (link .entry))
         (now (s0 .entry)) (now (s1 .entry)) (now (s2 .entry)) (now (s3 .entry))) (now (out .exit))
-        ≡ told (now (out .entry)) (asking
+        ≡ told (now (out .entry)) (keyQuestion
         (held (now (bytes .entry)) (now (used .entry)) (now (label .entry)) (now (link .entry))
         (now (s0 .entry)) (now (s1 .entry)) (now (s2 .entry)) (now (s3 .entry)))
         (now (key .entry)) (length (now (out .entry)))) ⌝ }

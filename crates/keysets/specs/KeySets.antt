@@ -17,7 +17,8 @@ use lib.ListN.{length, getD, set, length-set, replicate}
 use lib.Seq.{getD-set-same, getD-set-other}
 use Rattle.laws.specs.Choice.{pick}
 use Rattle.slots.specs.Slots.{words8}
-use Rattle.laws.specs.Digits.{bit, bit-and, bit-or, bit-xor, bit-pow-same, bit-pow-other, differ-self, differ-zero, bit-suc, bit-zero, some-bit}
+use Rattle.laws.specs.Digits.{bit, bit-and, bit-or, bit-xor, bit-pow-same, bit-pow-other, differ-self, differ-zero}
+use Rattle.laws.specs.Digits.{bit-suc, bit-zero, some-bit}
 use Rattle.laws.specs.Sizes.{keyLimit, setKeys, setLength, slotCount}
 
 -- what setting and clearing one digit does
@@ -247,7 +248,7 @@ empty-no σ k o l h =
     let c : (i * 64 + j) % 64 ≡ j = omega (arith, b .1) in
     (i * 64 + j, (l, omega (arith, z .1, b .1), rw (a, c) (b .2)))
 
-pub record Long (a b c d : List ℕ) : Type 0 where
+pub record SetTablesLong (a b c d : List ℕ) : Type 0 where
   pub l0 : setLength ≤ length a
   pub l1 : setLength ≤ length b
   pub l2 : setLength ≤ length c

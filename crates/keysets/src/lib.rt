@@ -7,11 +7,11 @@ ghost use lib.Bits.{bitAnd};
 ghost use Rattle.slots.specs.Slots.{words8};
 ghost use Prim.Native.Nat.{_+_, _≤_, _<_};
 ghost use lib.ListN.{length, getD};
-ghost use Rattle.keysets.specs.KeySets.{four, word as wordOf, emptyb, Long, met};
+ghost use Rattle.keysets.specs.KeySets.{four, word as wordOf, emptyb, SetTablesLong, met};
 ghost use Rattle.laws.specs.Sizes.{keyLimit};
 
 pub fn word(s0: &[u64], s1: &[u64], s2: &[u64], s3: &[u64], k: usize, i: usize) -> u64
-    requires { ⌜ Long (now s0) (now s1) (now s2) (now s3) × (k < keyLimit) × (i < 8) ⌝ }
+    requires { ⌜ SetTablesLong (now s0) (now s1) (now s2) (now s3) × (k < keyLimit) × (i < 8) ⌝ }
     ensures { λ r. ⌜ r ≡ wordOf (four (now (s0 .entry)) (now (s1 .entry)) (now (s2 .entry)) (now (s3 .entry))) k i ⌝ }
 {
     let q = k / SET_KEYS;
@@ -29,7 +29,7 @@ pub fn word(s0: &[u64], s1: &[u64], s2: &[u64], s3: &[u64], k: usize, i: usize) 
 }
 
 pub fn is_empty(s0: &[u64], s1: &[u64], s2: &[u64], s3: &[u64], k: usize) -> bool
-    requires { ⌜ Long (now s0) (now s1) (now s2) (now s3) × (k < keyLimit) ⌝ }
+    requires { ⌜ SetTablesLong (now s0) (now s1) (now s2) (now s3) × (k < keyLimit) ⌝ }
     ensures { λ r. ⌜ r ≡ emptyb (four (now (s0 .entry)) (now (s1 .entry)) (now (s2 .entry)) (now (s3 .entry))) k ⌝ }
 {
     let mut i: usize = 8;
@@ -58,7 +58,7 @@ fn and_at(t: &[u64], at: usize, within: SlotSet) -> SlotSet
 
 // The slots of a set that have the key k; none where k is no key.
 pub fn meet(s0: &[u64], s1: &[u64], s2: &[u64], s3: &[u64], k: usize, within: SlotSet) -> SlotSet
-    requires { ⌜ Long (now s0) (now s1) (now s2) (now s3) ⌝ }
+    requires { ⌜ SetTablesLong (now s0) (now s1) (now s2) (now s3) ⌝ }
     ensures { λ r. ⌜ r .words
         ≡ met (four (now (s0 .entry)) (now (s1 .entry)) (now (s2 .entry)) (now (s3 .entry))) k (within .words) ⌝ }
 {

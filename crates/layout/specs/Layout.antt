@@ -9,7 +9,8 @@ use lib.ListN.{length, getD, set, take, drop, replicate}
 use lib.Seq.{sets}
 use Rattle.laws.specs.Choice.{pick}
 use Rattle.slots.specs.Slots.{has, words8}
-use Rattle.laws.specs.Sizes.{bytesLength, labelLength, lengthsStart, linkLength, setLength, slotCount, termsStart, usedLength}
+use Rattle.laws.specs.Sizes.{bytesLength, labelLength, lengthsStart, linkLength, setLength, slotCount, termsStart}
+use Rattle.laws.specs.Sizes.{usedLength}
 
 unfoldable pub setsLong : ℕ → ℕ → ℕ → ℕ → Bool
 setsLong a b c d = pick (ltb a setLength) false

@@ -21,7 +21,8 @@ use Rattle.keys.specs.Keys.{Key, HasKey}
 use Rattle.keys.specs.Bytes.{isKey}
 use Rattle.theory.specs.Flat.{Item}
 use Rattle.theory.specs.Items.{items, shift}
-use Rattle.definitions.specs.Ranks.{First, Rows, end, row, part, AppliesIn, ranked, Gives, at-end, at-row, past-row, at-part, past-part, rank-one, applies-named}
+use Rattle.definitions.specs.Ranks.{First, Rows, end, row, part, AppliesIn, ranked, Gives, at-end, at-row, past-row}
+use Rattle.definitions.specs.Ranks.{at-part, past-part, rank-one, applies-named}
 use Rattle.definitions.specs.Conditions.{NoSignature, signatureRows, termRows}
 use Rattle.definitions.specs.FirstRefusal.{signature-first, refusal-first}
 use Rattle.definitions.specs.Trees.{treeOf}
@@ -30,10 +31,14 @@ use Rattle.definitions.specs.Records.{Unifier, IsRecord, Short, one-unifier, on
 use Rattle.definitions.specs.Decisions.{record?, Record?, record-right}
 use Rattle.definitions.specs.Answers.{Answer, refused, done, refuse, slot, fits, longFrom, refusalIn}
 use Rattle.library.specs.IsKey.{key-decided}
-use Rattle.library.specs.Store.{Store, inUse, firstFree, put, keysHeld, distinct, keyCount, Call, openWith, insert, delete, withKey, retrieve, solve, keyed, answers, answered}
+use Rattle.library.specs.Store.{Store, inUse, firstFree, put, keysHeld, distinct, keyCount, Call, openWith}
+use Rattle.library.specs.Store.{insert, delete, withKey, retrieve, solve, keyed, answers, answered}
 use Rattle.library.specs.Sound.{Sound, sound-put, use-below, free-most}
-use Rattle.library.specs.Readable.{ascending-nodup, same-number, distinct-nodup, long-short, free-none, free-unused, use-held, answers-are, answers-ascend, keyed-are, keyed-ascend, keys-are, solve-none, solve-long, solve-room as room-answered, solve-writes}
-use Rattle.library.specs.Applies.{Number, WithKey, Standing, StoredKey, NoSlot, AllUsed, ManyKeys, NoUnifier, LongValue, ShortListing, ShortRecord, rowsOf, AppliesNumber, Applies}
+use Rattle.library.specs.Readable.{ascending-nodup, same-number, distinct-nodup, long-short, free-none}
+use Rattle.library.specs.Readable.{free-unused, use-held, answers-are, answers-ascend, keyed-are, keyed-ascend}
+use Rattle.library.specs.Readable.{keys-are, solve-none, solve-long, solve-room as room-answered, solve-writes}
+use Rattle.library.specs.Applies.{Number, WithKey, Standing, StoredKey, NoSlot, AllUsed, ManyKeys, NoUnifier}
+use Rattle.library.specs.Applies.{LongValue, ShortListing, ShortRecord, rowsOf, AppliesNumber, Applies}
 use Rattle.laws.specs.Sizes.{keyLimit, slotCount, valueLimit}
 
 -- how many things are P is one number

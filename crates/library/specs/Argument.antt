@@ -9,7 +9,7 @@ use lib.Seq.{drop-drop, take-append-seam, drop-append-seam}
 use Rattle.keys.specs.Keys.{Tm, Args, node, nil, cons}
 use Rattle.terms.specs.Terms.{numbers, span, Signed, firstItem, argRefusal, argBytes, argStart}
 use Rattle.terms.proofs.TermLaws.{arg-none, length-numbers}
-use Rattle.definitions.specs.Trees.{countArgs, itemsT, itemsA, Shaped, firsts, others, treeOf}
+use Rattle.definitions.specs.Trees.{countArgs, itemsT, itemsA, Shaped, firsts, argumentsAfter, treeOf}
 use Rattle.definitions.specs.Spelt.{shapes-others, parts, shaped-count, tree-shaped, tree-spells, taken-term}
 use Rattle.terms.specs.Terms.{arity}
 
@@ -22,7 +22,7 @@ pub record Placed (sig t : List ℕ) (i x : ℕ) (us : Args) : Type 0 where
   pub bytes : t ≡ before ++ (argBytes sig t i ++ after)
   pub start : length before ≡ argStart sig t i
   pub left : numbers before ≡ x ∷ itemsA (firsts (i - 1) us)
-  pub right : numbers after ≡ itemsA (others i us)
+  pub right : numbers after ≡ itemsA (argumentsAfter i us)
 
 cut-back : (s n : ℕ) (t : List ℕ) → t ≡ take s t ++ (take n (drop s t) ++ drop n (drop s t))
 cut-back s n t = sym (take-append-drop s t) ∙ ap (λ (r : List ℕ). take s t ++ r) (sym (take-append-drop n (drop s t)))
@@ -40,8 +40,8 @@ root-taken [] n l = absurd (omega (arith, l))
 root-taken (a ∷ []) n l = absurd (omega (arith, l))
 root-taken (a ∷ b ∷ t) n l = let e : 2 + n ≡ suc (suc n) = omega arith in rw e
 
-others-next : (k : ℕ) (us : Args) → k < countArgs us → (others 1 (others k us) ≡ others (suc k) us) × (1 ≤ countArgs (others k us))
-unfolding others countArgs
+others-next : (k : ℕ) (us : Args) → k < countArgs us → (argumentsAfter 1 (argumentsAfter k us) ≡ argumentsAfter (suc k) us) × (1 ≤ countArgs (argumentsAfter k us))
+unfolding argumentsAfter countArgs
 others-next k nil l = absurd (omega arith)
 others-next zero (cons u us) l = (refl, omega arith)
 others-next (suc k) (cons u us) l = others-next k us (omega arith)
@@ -63,8 +63,8 @@ module _ (sig t : List ℕ) (i : ℕ) (s : Signed sig) (h : argRefusal sig t i �
       let a : ℕ = 2 + span sig D k in
       let E = drop a t in
       let d : drop (span sig D k) D ≡ E = drop-drop (span sig D k) 2 t in
-      let f : numbers E ≡ itemsA (others k us) = rw (← d) (p .after) in
-      let q = parts sig (s .short) E 1 (others k us) (shapes-others sig k us (w .1)) (o .1) f in
+      let f : numbers E ≡ itemsA (argumentsAfter k us) = rw (← d) (p .after) in
+      let q = parts sig (s .short) E 1 (argumentsAfter k us) (shapes-others sig k us (w .1)) (o .1) f in
       let v : suc k ≡ i = omega (arith, n .1) in
       let y = length-numbers (take (span sig D k) D) in
       let z = ap length (p .before) in
@@ -75,7 +75,7 @@ module _ (sig t : List ℕ) (i : ℕ) (s : Signed sig) (h : argRefusal sig t i �
         bytes = rw h (cut-back a (span sig E 1) t);
         start = rw h (omega (arith, m, length-take a t));
         left = root-taken t (span sig D k) (n .0 .long) ∙ rw (r .0, p .before);
-        right = q .after ∙ ap itemsA (o .0) ∙ ap (λ (j : ℕ). itemsA (others j us)) v;
+        right = q .after ∙ ap itemsA (o .0) ∙ ap (λ (j : ℕ). itemsA (argumentsAfter j us)) v;
       }
 
 -- so the bytes from the start that is answered, as many as are answered, are the argument's

@@ -17,13 +17,15 @@ use Rattle.theory.specs.Flat.{Item}
 use Rattle.theory.specs.Unify.{Bind, full, one}
 use Rattle.theory.specs.CheckedItems.{fine}
 use Rattle.theory.specs.Items.{items, shift, codes, moved}
-use Rattle.theory.specs.Solver.{solution, Solution, solve, by-free, by-size, step, face, face-var, face-bound, var-symbol, var-var, once-cases, at-bind, at-swap, at-follow, terms?}
+use Rattle.theory.specs.Solver.{solution, RightBindings, solve, by-free, by-size, step, face, face-var, face-bound}
+use Rattle.theory.specs.Solver.{var-symbol, var-var, once-cases, at-bind, at-swap, at-follow, terms?}
 use Rattle.theory.specs.Matcher.{matcher, matching, against, items?, item?}
-use Rattle.definitions.specs.Trees.{forest, firsts, others, top, treeOf}
+use Rattle.definitions.specs.Trees.{forest, firsts, argumentsAfter, top, treeOf}
 use Rattle.definitions.specs.Candidates.{agree, agreeAll, candidate, isCandidate}
 use Rattle.definitions.specs.Relations.{Stands}
-use Rattle.definitions.specs.Records.{Unifier, Short, IsRecord, recordOf, listedFrom, bytes, fieldBytes, written}
-use Rattle.definitions.specs.Decisions.{same?, answer, stands, stands-right, bindings?, bindings-right, record?, Record?, record-right}
+use Rattle.definitions.specs.Records.{Unifier, Short, IsRecord, recordOf, listedFrom, bytes, fieldBytes, writtenFields}
+use Rattle.definitions.specs.Decisions.{same?, answer, stands, stands-right, bindings?, bindings-right, record?}
+use Rattle.definitions.specs.Decisions.{Record?, record-right}
 use Rattle.laws.specs.Sizes.{valueLimit}
 use Rattle.terms.specs.Terms.{arity}
 
@@ -46,8 +48,8 @@ Taken sig t q = (refusal sig t ≡ 0) × (refusal sig q ≡ 0)
 abbrev pub Valued : List ℕ → List ℕ → List ℕ → ℕ → ℕ → Type 0
 Valued sig t q y n = (θ : ℕ → List Item) × Unifier sig (items t) (shift 32 (items q)) θ × (length (θ y) ≡ n)
 
-abbrev pub Fits : List ℕ → List ℕ → List ℕ → Type 0
-Fits sig t q = (θ : ℕ → List Item) × Unifier sig (items t) (shift 32 (items q)) θ × Short θ
+abbrev pub RecordFits : List ℕ → List ℕ → List ℕ → Type 0
+RecordFits sig t q = (θ : ℕ → List Item) × Unifier sig (items t) (shift 32 (items q)) θ × Short θ
 
 abbrev pub ClaimHolds : List ℕ → List ℕ → List ℕ → Claim → Type 0
 -- the stored term is a candidate of relation r, or is none
@@ -59,7 +61,7 @@ ClaimHolds sig t q (fails r) = Taken sig t q × (Stands sig r t q → ⊥)
 -- the record's bytes
 ClaimHolds sig t q (writes w) = Taken sig t q × IsRecord sig t q w
 ClaimHolds sig t q (valued y n) = Taken sig t q × Valued sig t q y n
-ClaimHolds sig t q fits = Taken sig t q × Fits sig t q
+ClaimHolds sig t q fits = Taken sig t q × RecordFits sig t q
 -- the number of the refusal of the stored term's bytes
 ClaimHolds sig t q (refused n) = refusal sig t ≡ n
 
@@ -71,9 +73,9 @@ abbrev pub All : List ℕ → List ℕ → List ℕ → List Claim → Type 0
 All sig t q [] = Unit {0}
 All sig t q (c ∷ cs) = ClaimHolds sig t q c × All sig t q cs
 
-abbrev pub Table : List ℕ → List Case → Type 0
-Table sig [] = Unit {0}
-Table sig (P n t q cs ∷ ps) = All sig t q cs × Table sig ps
+abbrev pub CaseTable : List ℕ → List Case → Type 0
+CaseTable sig [] = Unit {0}
+CaseTable sig (P n t q cs ∷ ps) = All sig t q cs × CaseTable sig ps
 
 -- a=0 and b=1 of arity 0, f=2 of arity 2, g=3 of arity 1
 abbrev pub signature : List ℕ
@@ -118,8 +120,8 @@ abbrev eight : ℕ → List ℕ → List ℕ
 eight v r = 128 ∷ v ∷ 128 ∷ v ∷ 128 ∷ v ∷ 128 ∷ v ∷ 128 ∷ v ∷ 128 ∷ v ∷ 128 ∷ v ∷ 128 ∷ v ∷ r
 
 -- p(x0, e(x0 eight times), x1, x2, h(x1,x1,x1,x2,x2,x2,x2 and what follows))
-abbrev pub grown : List ℕ → List ℕ
-grown r = 0 ∷ 2 ∷ 128 ∷ 0 ∷ 0 ∷ 1 ∷ eight 0
+abbrev pub grownTerm : List ℕ → List ℕ
+grownTerm r = 0 ∷ 2 ∷ 128 ∷ 0 ∷ 0 ∷ 1 ∷ eight 0
     (128 ∷ 1 ∷ 128 ∷ 2 ∷ 0 ∷ 3 ∷ 128 ∷ 1 ∷ 128 ∷ 1 ∷ 128 ∷ 1 ∷ 128 ∷ 2 ∷ 128 ∷ 2 ∷ 128 ∷ 2 ∷ 128 ∷ 2 ∷ r)
 
 -- p(e(x0 eight times), x1, e(x1 eight times), x1, x2)
@@ -129,17 +131,17 @@ asking = 0 ∷ 2 ∷ 0 ∷ 1 ∷ eight 0 (128 ∷ 1 ∷ 0 ∷ 1 ∷ eight 1 (128
 -- question variable 2 is written 34: its value has 2,048 items and no value has more; with an eighth argument a in h
 -- it has 2,049
 abbrev pub Limit : Type 0
-Limit = All (wide 7) (grown []) asking (valued 34 valueLimit ∷ fits ∷ [])
-    × All (wide 8) (grown (0 ∷ 0 ∷ [])) asking (valued 34 (valueLimit + 1) ∷ [])
+Limit = All (wide 7) (grownTerm []) asking (valued 34 valueLimit ∷ fits ∷ [])
+    × All (wide 8) (grownTerm (0 ∷ 0 ∷ [])) asking (valued 34 (valueLimit + 1) ∷ [])
 
 -- the proof: each claim is decided, and what is decided holds
-abbrev both : Bool → Bool → Bool
-both a b = pick a b false
+abbrev bothTrue : Bool → Bool → Bool
+bothTrue a b = pick a b false
 
 abbrev opposite : Bool → Bool
 opposite a = pick a false true
 
-both-true : (a b : Bool) → both a b ≡ true → (a ≡ true) × (b ≡ true)
+both-true : (a b : Bool) → bothTrue a b ≡ true → (a ≡ true) × (b ≡ true)
 both-true true b h = (refl, h)
 both-true false b h = absurd (let z : _≡_ {A = ℕ} 0 1 = cc in omega arith)
 
@@ -157,7 +159,7 @@ long y n (some B) = eqb (length (full B y)) n
 
 shortFrom : (ℕ → List Item) → ℕ → ℕ → Bool
 shortFrom θ zero y = true
-shortFrom θ (suc k) y = both (leb (length (θ y)) valueLimit) (shortFrom θ k (y + 1))
+shortFrom θ (suc k) y = bothTrue (leb (length (θ y)) valueLimit) (shortFrom θ k (y + 1))
 
 short-from : (θ : ℕ → List Item) (k y : ℕ) → shortFrom θ k y ≡ true → (z : ℕ) → y ≤ z → z < y + k → length (θ z) ≤ valueLimit
 unfolding shortFrom
@@ -174,25 +176,25 @@ short (some B) = shortFrom (full B) 64 0
 
 module _ (sig : List ℕ) where
   abbrev taken : List ℕ → List ℕ → Bool
-  taken t q = both (eqb (refusal sig t) 0) (eqb (refusal sig q) 0)
+  taken t q = bothTrue (eqb (refusal sig t) 0) (eqb (refusal sig q) 0)
 
   abbrev check : List ℕ → List ℕ → Claim → Bool
-  check t q (stays r) = both (taken t q) (isCandidate sig r q t)
-  check t q (drops r) = both (taken t q) (opposite (isCandidate sig r q t))
-  check t q (answers r) = both (taken t q) (stands sig r t q)
-  check t q (fails r) = both (taken t q) (opposite (stands sig r t q))
-  check t q (writes w) = both (taken t q) (is (record? sig t q) w)
-  check t q (valued y n) = both (taken t q) (long y n (bindings? sig t q))
-  check t q fits = both (taken t q) (short (bindings? sig t q))
+  check t q (stays r) = bothTrue (taken t q) (isCandidate sig r q t)
+  check t q (drops r) = bothTrue (taken t q) (opposite (isCandidate sig r q t))
+  check t q (answers r) = bothTrue (taken t q) (stands sig r t q)
+  check t q (fails r) = bothTrue (taken t q) (opposite (stands sig r t q))
+  check t q (writes w) = bothTrue (taken t q) (is (record? sig t q) w)
+  check t q (valued y n) = bothTrue (taken t q) (long y n (bindings? sig t q))
+  check t q fits = bothTrue (taken t q) (short (bindings? sig t q))
   check t q (refused n) = eqb (refusal sig t) n
 
   checkAll : List ℕ → List ℕ → List Claim → Bool
   checkAll t q [] = true
-  checkAll t q (c ∷ cs) = both (check t q c) (checkAll t q cs)
+  checkAll t q (c ∷ cs) = bothTrue (check t q c) (checkAll t q cs)
 
   checkTable : List Case → Bool
   checkTable [] = true
-  checkTable (P n t q cs ∷ ps) = both (checkAll t q cs) (checkTable ps)
+  checkTable (P n t q cs ∷ ps) = bothTrue (checkAll t q cs) (checkTable ps)
 
   record-is : (t q w : List ℕ) (o : Option (List ℕ)) → Record? sig t q o → is o w ≡ true → IsRecord sig t q w
   record-is t q w none r e = absurd (let z : _≡_ {A = ℕ} 0 1 = cc in omega arith)
@@ -202,19 +204,19 @@ module _ (sig : List ℕ) where
       go (yes p) h = rw p at r
       go (no n) h = absurd (let z : _≡_ {A = ℕ} 0 1 = cc in omega arith)
 
-  abbrev Solved : List ℕ → List ℕ → Option (List Bind) → Type 0
-  Solved t q o = Solution (arity sig) (items t) (shift 32 (items q)) o
+  abbrev CaseSolved : List ℕ → List ℕ → Option (List Bind) → Type 0
+  CaseSolved t q o = RightBindings (arity sig) (items t) (shift 32 (items q)) o
 
-  long-is : (t q : List ℕ) (y n : ℕ) (o : Option (List Bind)) → Solved t q o → long y n o ≡ true → Valued sig t q y n
+  long-is : (t q : List ℕ) (y n : ℕ) (o : Option (List Bind)) → CaseSolved t q o → long y n o ≡ true → Valued sig t q y n
   long-is t q y n none h e = absurd (let z : _≡_ {A = ℕ} 0 1 = cc in omega arith)
   long-is t q y n (some B) h e = (full B, record { mgu = h .1; least = h .2 }, eqb-true (length (full B y)) n e)
 
-  short-is : (t q : List ℕ) (o : Option (List Bind)) → Solved t q o → short o ≡ true → Fits sig t q
+  short-is : (t q : List ℕ) (o : Option (List Bind)) → CaseSolved t q o → short o ≡ true → RecordFits sig t q
   short-is t q none h e = absurd (let z : _≡_ {A = ℕ} 0 1 = cc in omega arith)
   short-is t q (some B) h e = (full B, record { mgu = h .1; least = h .2 }, λ y b. short-from (full B) 64 0 e y (omega arith) (omega arith))
 
   module _ (s : sigRefusal sig ≡ 0) where
-    with-taken : (t q : List ℕ) (b : Bool) → both (taken t q) b ≡ true → Taken sig t q × (b ≡ true)
+    with-taken : (t q : List ℕ) (b : Bool) → bothTrue (taken t q) b ≡ true → Taken sig t q × (b ≡ true)
     with-taken t q b e =
         let h = both-true (taken t q) b e in
         let k = both-true (eqb (refusal sig t) 0) (eqb (refusal sig q) 0) (h .0) in ((eqb-true (refusal sig t) 0 (k .0), eqb-true (refusal sig q) 0 (k .1)), h .1)
@@ -241,17 +243,17 @@ module _ (sig : List ℕ) where
     all-hold t q [] e = tt
     all-hold t q (c ∷ cs) e = let h = both-true (check t q c) (checkAll t q cs) e in (holds t q c (h .0), all-hold t q cs (h .1))
 
-    table-holds : (ps : List Case) → checkTable ps ≡ true → Table sig ps
+    table-holds : (ps : List Case) → checkTable ps ≡ true → CaseTable sig ps
     unfolding checkTable
     table-holds [] e = tt
     table-holds (P n t q cs ∷ ps) e = let h = both-true (checkAll t q cs) (checkTable ps) e in (all-hold t q cs (h .0), table-holds ps (h .1))
 
 -- P1 to P12 hold of the definitions
-pub cases-hold : Table signature cases
-unfolding checkTable checkAll sigRefusal aritiesGood refusal numbers span declared itemsGood isCandidate candidate agree agreeAll treeOf forest firsts others top stands bindings? record? solution solve by-free by-size step face face-var face-bound var-symbol var-var in? once-cases ℕ-discrete one at-bind at-swap at-follow decLe terms? codes moved matcher matching against items? item? same? recordOf listedFrom bytes fieldBytes written
+pub cases-hold : CaseTable signature cases
+unfolding checkTable checkAll sigRefusal aritiesGood refusal numbers span declared itemsGood isCandidate candidate agree agreeAll treeOf forest firsts argumentsAfter top stands bindings? record? solution solve by-free by-size step face face-var face-bound var-symbol var-var in? once-cases ℕ-discrete one at-bind at-swap at-follow decLe terms? codes moved matcher matching against items? item? same? recordOf listedFrom bytes fieldBytes writtenFields
 cases-hold = table-holds signature refl cases refl
 
 -- and so does the size limit
 pub limit-holds : Limit
 unfolding checkAll shortFrom sigRefusal aritiesGood refusal span declared itemsGood bindings? solution solve by-free by-size step face face-var face-bound var-symbol var-var in? once-cases ℕ-discrete one at-bind at-swap at-follow decLe terms? codes numbers moved
-limit-holds = (all-hold (wide 7) refl (grown []) asking (valued 34 valueLimit ∷ fits ∷ []) refl, all-hold (wide 8) refl (grown (0 ∷ 0 ∷ [])) asking (valued 34 (valueLimit + 1) ∷ []) refl)
+limit-holds = (all-hold (wide 7) refl (grownTerm []) asking (valued 34 valueLimit ∷ fits ∷ []) refl, all-hold (wide 8) refl (grownTerm (0 ∷ 0 ∷ [])) asking (valued 34 (valueLimit + 1) ∷ []) refl)

@@ -23,7 +23,7 @@ use Rattle.theory.specs.Fresh.{kept}
 use Rattle.theory.specs.Items.{item16, codes, items, shift, moved-none}
 use Rattle.theory.specs.CheckedItems.{fine}
 use Rattle.theory.specs.Relations.{Instance, Unifiable}
-use Rattle.theory.specs.Solver.{Solution}
+use Rattle.theory.specs.Solver.{RightBindings}
 use Rattle.definitions.specs.Relations.{Stands}
 use Rattle.definitions.specs.Records.{Unifier}
 use Rattle.definitions.specs.Decisions.{bindings?, bindings-right}
@@ -187,7 +187,7 @@ module _ (sig : List ℕ) where
     pub unifiable-declared : Unifiable sig t q → (θ : ℕ → List Item) × Proper θ × (app θ (items t) ≡ app θ (shift 32 (items q)))
     unifiable-declared u = go (bindings? sig t q) (bindings-right sig t q (fine sig t s a) (fine sig q s b))
       where
-        go : (o : Option (List Bind)) → Solution (arity sig) (items t) (shift 32 (items q)) o → (θ : ℕ → List Item) × Proper θ × (app θ (items t) ≡ app θ (shift 32 (items q)))
+        go : (o : Option (List Bind)) → RightBindings (arity sig) (items t) (shift 32 (items q)) o → (θ : ℕ → List Item) × Proper θ × (app θ (items t) ≡ app θ (shift 32 (items q)))
         go none h = absurd (h (u .by) (u .sub) (u .same))
         go (some B) h = (full B, unifier-declared (full B) (record { mgu = h .1; least = h .2 }), h .1 .unifies)
 

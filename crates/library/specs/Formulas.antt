@@ -76,7 +76,8 @@ unfoldable mutual
 
 unfoldable mutual
   pub getInstances : Held → Place → Tm → Set
-  getInstances held p (node f ts) = form f ts (terms held) (getTerms held p f) (pick (allVariables ts) (getTerms held p f) (eachInstances held p f 0 ts))
+  getInstances held p (node f ts) = form f ts (terms held) (getTerms held p f)
+      (pick (allVariables ts) (getTerms held p f) (eachInstances held p f 0 ts))
 
   pub eachInstances : Held → Place → ℕ → ℕ → Args → Set
   eachInstances held p f i nil = terms held
@@ -84,16 +85,20 @@ unfoldable mutual
 
 unfoldable mutual
   pub getGeneralizations : Held → Place → Tm → Set
-  getGeneralizations held p (node f ts) = form f ts (getTerms held p star) (union (getTerms held p star) (getTerms held p f)) (union (getTerms held p star) (eachGeneralizations held p f 0 ts))
+  getGeneralizations held p (node f ts) = form f ts (getTerms held p star)
+      (union (getTerms held p star) (getTerms held p f))
+      (union (getTerms held p star) (eachGeneralizations held p f 0 ts))
 
   pub eachGeneralizations : Held → Place → ℕ → ℕ → Args → Set
   eachGeneralizations held p f i nil = terms held
-  eachGeneralizations held p f i (cons t ts) = meet (getGeneralizations held (step p f i) t) (eachGeneralizations held p f (suc i) ts)
+  eachGeneralizations held p f i (cons t ts) =
+      meet (getGeneralizations held (step p f i) t) (eachGeneralizations held p f (suc i) ts)
 
 unfoldable mutual
   pub getUnifiables : Held → Place → Tm → Set
   getUnifiables held p (node f ts) = form f ts (terms held) (union (getTerms held p star) (getTerms held p f))
-      (pick (allVariables ts) (union (getTerms held p star) (getTerms held p f)) (union (getTerms held p star) (eachUnifiables held p f 0 ts)))
+      (pick (allVariables ts) (union (getTerms held p star) (getTerms held p f))
+      (union (getTerms held p star) (eachUnifiables held p f 0 ts)))
 
   pub eachUnifiables : Held → Place → ℕ → ℕ → Args → Set
   eachUnifiables held p f i nil = terms held

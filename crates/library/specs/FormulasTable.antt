@@ -12,11 +12,15 @@ use borrow.Author.Tests.{le-leb, lt-leb, eqb-true, eqb-false, eq-eqb, ne-eqb}
 use lib.Dec.{leb, eqb}
 use lib.ListN.{getD}
 use Rattle.laws.specs.Choice.{pick}
-use Rattle.keys.specs.Keys.{Tm, Args, node, nil, cons, Place, root, step, Key, key, endOf, subAt, down, nth, topOf, HasKey, down-some}
+use Rattle.keys.specs.Keys.{Tm, Args, node, nil, cons, Place, root, step, Key, key, endOf, subAt, down, nth, topOf}
+use Rattle.keys.specs.Keys.{HasKey, down-some}
 use Rattle.terms.specs.Terms.{Signed, refusal}
 use Rattle.definitions.specs.Trees.{countArgs, IsSymbol, Variable, Shaped, Shapes, treeOf}
 use Rattle.definitions.specs.Candidates.{isVariable, agree, agreeAll, opens, stars, candidate, isCandidate}
-use Rattle.library.specs.Formulas.{Held, Set, union, meet, star, isTop, hasKey, holdsKey, isHeld, terms, getTerms, noArguments, form, allVariables, getVariants, eachVariants, getInstances, eachInstances, getGeneralizations, eachGeneralizations, getUnifiables, eachUnifiables, formula, stays, treeIn, trees, staysBytes}
+use Rattle.library.specs.Formulas.{Held, Set, union, meet, star, isTop, hasKey, holdsKey, isHeld, terms, getTerms}
+use Rattle.library.specs.Formulas.{noArguments, form, allVariables, getVariants, eachVariants, getInstances}
+use Rattle.library.specs.Formulas.{eachInstances, getGeneralizations, eachGeneralizations, getUnifiables}
+use Rattle.library.specs.Formulas.{eachUnifiables, formula, stays, treeIn, trees, staysBytes}
 use Rattle.definitions.specs.Spelt.{clash, shaped-count, tree-shaped}
 use Rattle.laws.specs.Sizes.{variableBase}
 use Rattle.terms.specs.Terms.{arity}
@@ -48,8 +52,10 @@ starred tv a b = pick tv (union a b) b
 
 unfoldable mutual
   retrieve : Bool → Bool → Held → Place → Tm → Set
-  retrieve qv tv held p (node f ts) = form f ts (pick qv (terms held) (getTerms held p star)) (starred tv (getTerms held p star) (getTerms held p f))
-      (starred tv (getTerms held p star) (pick (pick qv (allVariables ts) false) (getTerms held p f) (each qv tv held p f 0 ts)))
+  retrieve qv tv held p (node f ts) = form f ts (pick qv (terms held) (getTerms held p star))
+      (starred tv (getTerms held p star) (getTerms held p f))
+      (starred tv (getTerms held p star)
+      (pick (pick qv (allVariables ts) false) (getTerms held p f) (each qv tv held p f 0 ts)))
 
   each : Bool → Bool → Held → Place → ℕ → ℕ → Args → Set
   each qv tv held p f i nil = terms held
@@ -233,12 +239,12 @@ open-agree false tv us vs c e = clash e
 -- the table's line, case by case: the question's item x and its arguments, what stands in the stored term, and E,
 -- whether the meet holds
 module _ (qv tv : Bool) (x : ℕ) (ts : Args) (E : Bool) where
-  abbrev Line : Option Tm → Type 0
-  Line o = value (isVariable x) (noArguments ts) qv tv (pick qv (allVariables ts) false)
+  abbrev FormulaLine : Option Tm → Type 0
+  FormulaLine o = value (isVariable x) (noArguments ts) qv tv (pick qv (allVariables ts) false)
       true (isTop o star) (isTop o x) E
       ≡ agreeAt qv tv (node x ts) o
 
-  line-variable : (o : Option Tm) → isVariable x ≡ true → ((y : ℕ) (vs : Args) → o ≡ some (node y vs) → Kind y) → Line o
+  line-variable : (o : Option Tm) → isVariable x ≡ true → ((y : ℕ) (vs : Args) → o ≡ some (node y vs) → Kind y) → FormulaLine o
   unfolding isTop agreeAt asksNothing agree
   line-variable none v k = rw v (itself qv)
   line-variable (some (node y vs)) v k = rw v (go (k y vs refl))
@@ -254,7 +260,7 @@ module _ (qv tv : Bool) (x : ℕ) (ts : Args) (E : Bool) where
       let z : pick (pick qv (allVariables ts) false) false E ≡ false = rw (q, ← e) (outside qv u us) in
       rw z (ap (λ (b : Bool). pick tv b false) (itself S))
 
-  line-out : (o : Option Tm) → isVariable x ≡ false → x < 256 → isTop o x ≡ false → E ≡ allAskNothing qv ts → ((y : ℕ) (vs : Args) → o ≡ some (node y vs) → Kind y) → Line o
+  line-out : (o : Option Tm) → isVariable x ≡ false → x < 256 → isTop o x ≡ false → E ≡ allAskNothing qv ts → ((y : ℕ) (vs : Args) → o ≡ some (node y vs) → Kind y) → FormulaLine o
   unfolding isTop agreeAt asksNothing agree
   line-out none v l f q k = rw v (shut ts refl q false ∙ one-side tv false)
   line-out (some (node y vs)) v l f q k = rw (v, f) (shut ts refl q (eqb (endOf y) star) ∙ go (k y vs refl))
@@ -265,7 +271,7 @@ module _ (qv tv : Bool) (x : ℕ) (ts : Args) (E : Bool) where
           let n : eqb x y ≡ false = ne-eqb x y (λ z. eqb-false (endOf y) x f (h .1 ∙ sym z)) in
           rw (h .0, h .1, ne-eqb y 256 (λ z. omega (arith, z, h .2)), n) (one-side tv false)
 
-  line-in : (vs : Args) → isVariable x ≡ false → endOf x ≡ x → x < 256 → countArgs ts ≡ countArgs vs → E ≡ agreeAll qv tv ts vs → Line (some (node x vs))
+  line-in : (vs : Args) → isVariable x ≡ false → endOf x ≡ x → x < 256 → countArgs ts ≡ countArgs vs → E ≡ agreeAll qv tv ts vs → FormulaLine (some (node x vs))
   unfolding isTop agreeAt agree
   line-in vs v e l c q = rw (v, e, ne-eqb x 256 (λ z. omega (arith, z, l)), eq-eqb x x refl) (go ts refl)
     where
@@ -320,7 +326,7 @@ module _ (qv tv : Bool) (held : Held) (s : ℕ) (t : Tm) (h : held s ≡ some t)
         E = each qv tv held p x 0 ts s
 
         settle : Kind x → (b : Bool) → isTop o x ≡ b → (isTop o x ≡ false → E ≡ allAskNothing qv ts)
-            → ((vs : Args) → countArgs ts ≡ countArgs vs → endOf x ≡ x → o ≡ some (node x vs) → Shapes sig vs → E ≡ agreeAll qv tv ts vs) → Line qv tv x ts E o
+            → ((vs : Args) → countArgs ts ≡ countArgs vs → endOf x ≡ x → o ≡ some (node x vs) → Shapes sig vs → E ≡ agreeAll qv tv ts vs) → FormulaLine qv tv x ts E o
         settle (inl v) b z f i = line-variable qv tv x ts E o (v .0) (kind-at o k)
         settle (inr v) false z f i = line-out qv tv x ts E o (v .0) (v .2) z (f z) (kind-at o k)
         settle (inr v) true z f i =

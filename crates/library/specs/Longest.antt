@@ -21,11 +21,13 @@ use Rattle.theory.specs.Matcher.{items?}
 use Rattle.definitions.specs.Trees.{treeOf}
 use Rattle.definitions.specs.KeyBytes.{keyOf}
 use Rattle.definitions.specs.Decisions.{stands, bindings?}
-use Rattle.definitions.specs.Records.{unless, listedFrom, fieldBytes, bytes, written, recordOf, countOf, Short, IsRecord}
+use Rattle.definitions.specs.Records.{unlessDecided, listedFrom, fieldBytes, bytes, writtenFields, recordOf, countOf}
+use Rattle.definitions.specs.Records.{Short, IsRecord}
 use Rattle.definitions.specs.ReadBack.{length-bytes}
 use Rattle.definitions.specs.Answers.{refused, done, slots, found, fits, solved, longFrom, recorded}
 use Rattle.library.specs.Formulas.{hasKey}
-use Rattle.library.specs.Store.{Store, slotsFrom, slotsWith, holding, inUse, withKey, retrieve, solve, keyed, candidates, answers, solving, answered}
+use Rattle.library.specs.Store.{Store, slotsFrom, slotsWith, holding, inUse, withKey, retrieve, solve, keyed}
+use Rattle.library.specs.Store.{candidates, answers, solvingHeld, answered}
 use Rattle.library.specs.Readable.{long-short}
 
 -- two bytes for each of 512 slots
@@ -45,15 +47,15 @@ unfolding fieldBytes bytes
 length-field y l = omega (arith, length-bytes l)
 
 module _ (θ : ℕ → List Item) (h : Short θ) where
-  fields-most : (k y : ℕ) → y + k ≤ 64 → length (written (listedFrom θ k y)) ≤ fieldMost * k
-  unfolding listedFrom written
+  fields-most : (k y : ℕ) → y + k ≤ 64 → length (writtenFields (listedFrom θ k y)) ≤ fieldMost * k
+  unfolding listedFrom writtenFields
   fields-most zero y b = omega arith
   fields-most (suc k) y b = go (items? (θ y) (vars y)) (fields-most k (y + 1) (omega arith))
     where
-      go : (d : Dec (θ y ≡ vars y)) → length (written (listedFrom θ k (y + 1))) ≤ fieldMost * k
-          → length (written (unless d (y := θ y) (listedFrom θ k (y + 1)))) ≤ fieldMost * suc k
+      go : (d : Dec (θ y ≡ vars y)) → length (writtenFields (listedFrom θ k (y + 1))) ≤ fieldMost * k
+          → length (writtenFields (unlessDecided d (y := θ y) (listedFrom θ k (y + 1)))) ≤ fieldMost * suc k
       go (yes e) ih = omega arith
-      go (no n) ih = omega (arith, length-append (fieldBytes (y := θ y)) (written (listedFrom θ k (y + 1))), length-field y (θ y), h y (omega arith), ih)
+      go (no n) ih = omega (arith, length-append (fieldBytes (y := θ y)) (writtenFields (listedFrom θ k (y + 1))), length-field y (θ y), h y (omega arith), ih)
 
   pub unifier-most : length (recordOf θ) ≤ recordMost
   unfolding recordOf
@@ -123,7 +125,7 @@ solve-roomy st s q room h = go (inUse st s) (st .held s)
     checked t true z = recorded-roomy (bindings? (st .signature) t q) room h z
     checked t false z = term-other (st .signature) q (number-same (refusal (st .signature) q) 15 z)
 
-    go : (b : Bool) (o : Option (List ℕ)) → pick b (solving (st .signature) o q room) (refused 4) ≡ refused 15 → ⊥
+    go : (b : Bool) (o : Option (List ℕ)) → pick b (solvingHeld (st .signature) o q room) (refused 4) ≡ refused 15 → ⊥
     go true none z = let e = number-same 4 15 z in omega arith
     go true (some t) z = checked t (eqb (refusal (st .signature) q) 0) z
     go false o z = let e = number-same 4 15 z in omega arith

@@ -22,7 +22,7 @@ use Rattle.theory.specs.Unify.{Bind, full}
 use Rattle.theory.specs.Items.{items, shift}
 use Rattle.theory.specs.CheckedItems.{fine}
 use Rattle.theory.specs.Relations.{Decided, Unifiable}
-use Rattle.theory.specs.Solver.{Solution}
+use Rattle.theory.specs.Solver.{RightBindings}
 use Rattle.definitions.specs.Trees.{treeOf}
 use Rattle.definitions.specs.Candidates.{isCandidate}
 use Rattle.library.specs.Formulas.{hasKey, formula, trees, staysBytes}
@@ -33,7 +33,9 @@ use Rattle.definitions.specs.Decisions.{answer, stands, stands-right, bindings?
 use Rattle.definitions.specs.Records.{Unifier, Short, IsRecord, recordOf, countOf, one-unifier, one-record}
 use Rattle.definitions.specs.ReadBack.{readFields, Reads, read-back, read-count}
 use Rattle.definitions.specs.Spelt.{clash, taken, keys-stand}
-use Rattle.library.specs.Store.{Store, slotsFrom, slotsWith, holding, inUse, freeFrom, firstFree, key?, keysIn, keysFrom, keysHeld, isIn, distinct, keyCount, solve, keyed, candidates, answers, solving, answered}
+use Rattle.library.specs.Store.{Store, slotsFrom, slotsWith, holding, inUse, freeFrom, firstFree, key?, keysIn}
+use Rattle.library.specs.Store.{keysFrom, keysHeld, isIn, distinct, keyCount, solve, keyed, candidates, answers}
+use Rattle.library.specs.Store.{solvingHeld, answered}
 use Rattle.library.specs.Sound.{Sound, free-most}
 use Rattle.definitions.specs.Answers.{Answer, refused, solved, longFrom, recorded}
 use Rattle.laws.specs.Sizes.{slotCount, valueLimit}
@@ -373,14 +375,14 @@ module _ (st : Store) (h : Sound st) (s : ℕ) (t : List ℕ) (e : st .held s �
   unfolding answered
   solve-is = rw (use-held st h s .1 (t, e), e, eq-eqb (refusal (st .signature) q) 0 c)
 
-  found : Solution (arity (st .signature)) (items t) (shift 32 (items q)) (bindings? (st .signature) t q)
+  found : RightBindings (arity (st .signature)) (items t) (shift 32 (items q)) (bindings? (st .signature) t q)
   found = bindings-right (st .signature) t q (fine (st .signature) t (h .signed) (h .checked s t e)) (fine (st .signature) q (h .signed) c)
 
   -- '13, NONE: solve, and no unifier exists'
   pub solve-none : (answered st (solve s q room) ≡ refused 13) ↔ (Unifiable (st .signature) t q → ⊥)
   solve-none = rw solve-is (go (bindings? (st .signature) t q) found)
     where
-      go : (o : Option (List Bind)) → Solution (arity (st .signature)) (items t) (shift 32 (items q)) o
+      go : (o : Option (List Bind)) → RightBindings (arity (st .signature)) (items t) (shift 32 (items q)) o
           → (recorded o room ≡ refused 13) ↔ (Unifiable (st .signature) t q → ⊥)
       go none g = ((λ d u. g (u .by) (u .sub) (u .same)), (λ n. refl))
       go (some B) g = (
@@ -393,7 +395,7 @@ module _ (st : Store) (h : Sound st) (s : ℕ) (t : List ℕ) (e : st .held s �
       → Solved (st .signature) t q room n w
   solve-solved n w d = go (bindings? (st .signature) t q) found (sym solve-is ∙ d)
     where
-      go : (o : Option (List Bind)) → Solution (arity (st .signature)) (items t) (shift 32 (items q)) o
+      go : (o : Option (List Bind)) → RightBindings (arity (st .signature)) (items t) (shift 32 (items q)) o
           → recorded o room ≡ solved n w → Solved (st .signature) t q room n w
       go none g f = absurd (let z : _≡_ {A = ℕ} 0 1 = cc in omega arith)
       go (some B) g f =
@@ -414,7 +416,7 @@ module _ (st : Store) (h : Sound st) (s : ℕ) (t : List ℕ) (e : st .held s �
       ((θ : ℕ → List Item) × Unifier (st .signature) (items t) (shift 32 (items q)) θ × (Short θ → ⊥))
   solve-long = rw solve-is (go (bindings? (st .signature) t q) found)
     where
-      go : (o : Option (List Bind)) → Solution (arity (st .signature)) (items t) (shift 32 (items q)) o
+      go : (o : Option (List Bind)) → RightBindings (arity (st .signature)) (items t) (shift 32 (items q)) o
           → (recorded o room ≡ refused 14) ↔
           ((θ : ℕ → List Item) × Unifier (st .signature) (items t) (shift 32 (items q)) θ × (Short θ → ⊥))
       go none g = ((λ d. absurd (let z : _≡_ {A = ℕ} 13 14 = cc in omega arith)), (λ w. absurd (g (w .0) (w .1 .mgu .sub) (w .1 .mgu .unifies))))
@@ -440,7 +442,7 @@ module _ (st : Store) (h : Sound st) (s : ℕ) (t : List ℕ) (e : st .held s �
       → answered st (solve s q room) ≡ refused 15
   solve-room w r k l = solve-is ∙ go (bindings? (st .signature) t q) found
     where
-      go : (o : Option (List Bind)) → Solution (arity (st .signature)) (items t) (shift 32 (items q)) o
+      go : (o : Option (List Bind)) → RightBindings (arity (st .signature)) (items t) (shift 32 (items q)) o
           → recorded o room ≡ refused 15
       go none g = absurd (g (r .by) (r .unifier .mgu .sub) (r .unifier .mgu .unifies))
       go (some B) g =
@@ -455,7 +457,7 @@ module _ (st : Store) (h : Sound st) (s : ℕ) (t : List ℕ) (e : st .held s �
       → answered st (solve s q room) ≡ solved (length (readFields w)) w
   solve-writes w r k l = solve-is ∙ go (bindings? (st .signature) t q) found
     where
-      go : (o : Option (List Bind)) → Solution (arity (st .signature)) (items t) (shift 32 (items q)) o
+      go : (o : Option (List Bind)) → RightBindings (arity (st .signature)) (items t) (shift 32 (items q)) o
           → recorded o room ≡ solved (length (readFields w)) w
       go none g = absurd (g (r .by) (r .unifier .mgu .sub) (r .unifier .mgu .unifies))
       go (some B) g =

@@ -128,9 +128,10 @@ unfoldable pub answers : Store → ℕ → List ℕ → List ℕ
 answers st r q = slotsWith (λ s. holding (λ t. stands (st .signature) r t q) (st .held s))
 
 -- the record of a slot's term and a question
-abbrev pub solving : List ℕ → Option (List ℕ) → List ℕ → ℕ → Answer
-solving sig none q room = refuse Refusal.Slot
-solving sig (some t) q room = pick (eqb (refusal sig q) 0) (recorded (bindings? sig t q) room) (refused (refusal sig q))
+abbrev pub solvingHeld : List ℕ → Option (List ℕ) → List ℕ → ℕ → Answer
+solvingHeld sig none q room = refuse Refusal.Slot
+solvingHeld sig (some t) q room =
+    pick (eqb (refusal sig q) 0) (recorded (bindings? sig t q) room) (refused (refusal sig q))
 
 -- what a call answers, the refusal that is first in rank first
 unfoldable pub answered : Store → Call → Answer
@@ -149,7 +150,7 @@ answered st (retrieve r q room) =
     (pick (eqb (refusal (st .signature) q) 0)
     (fits (answers st r q) room (found (length (candidates st r q)) (answers st r q)))
     (refused (refusal (st .signature) q)))
-answered st (solve s q room) = pick (inUse st s) (solving (st .signature) (st .held s) q room) (refuse Refusal.Slot)
+answered st (solve s q room) = pick (inUse st s) (solvingHeld (st .signature) (st .held s) q room) (refuse Refusal.Slot)
 
 -- 'opening sets the signature and empties all'
 unfoldable pub empty : List ℕ → Store

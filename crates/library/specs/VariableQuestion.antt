@@ -23,7 +23,8 @@ use Rattle.theory.specs.Matcher.{items?}
 use Rattle.theory.specs.CheckedItems.{fine}
 use Rattle.definitions.specs.Relations.{Stands}
 use Rattle.definitions.specs.Decisions.{stands}
-use Rattle.definitions.specs.Records.{Unifier, unless, listedFrom, listed, bytes, fieldBytes, written, recordOf, countOf, Short, IsRecord}
+use Rattle.definitions.specs.Records.{Unifier, unlessDecided, listedFrom, listedBindings, bytes, fieldBytes}
+use Rattle.definitions.specs.Records.{writtenFields, recordOf, countOf, Short, IsRecord}
 use Rattle.definitions.specs.ReadBack.{readFields, read-count, Octets, term-below}
 use Rattle.definitions.specs.Answers.{found, solved}
 use Rattle.library.specs.Store.{Store, holding, retrieve, solve, candidates, answers, answered}
@@ -64,7 +65,7 @@ module _ (θ : ℕ → List Item) (z : ℕ) (n : θ z ≢ vars z) (other : (x : 
   none-listed zero y l = refl
   none-listed (suc k) y l = go (items? (θ y) (vars y)) (none-listed k (y + 1) (omega arith))
     where
-      go : (d : Dec (θ y ≡ vars y)) → listedFrom θ k (y + 1) ≡ [] → unless d (y := θ y) (listedFrom θ k (y + 1)) ≡ []
+      go : (d : Dec (θ y ≡ vars y)) → listedFrom θ k (y + 1) ≡ [] → unlessDecided d (y := θ y) (listedFrom θ k (y + 1)) ≡ []
       go (yes e) ih = ih
       go (no f) ih = absurd (f (other y (λ e. omega arith)))
 
@@ -74,7 +75,7 @@ module _ (θ : ℕ → List Item) (z : ℕ) (n : θ z ≢ vars z) (other : (x : 
   one-listed (suc k) y a b = go (items? (θ y) (vars y)) (ℕ-discrete y z) (λ c. one-listed k (y + 1) c (omega arith))
     where
       go : (d : Dec (θ y ≡ vars y)) → Dec (y ≡ z) → (y + 1 ≤ z → listedFrom θ k (y + 1) ≡ (z := θ z) ∷ [])
-          → unless d (y := θ y) (listedFrom θ k (y + 1)) ≡ (z := θ z) ∷ []
+          → unlessDecided d (y := θ y) (listedFrom θ k (y + 1)) ≡ (z := θ z) ∷ []
       go (yes e) (yes p) ih = absurd (n (rw (← p) e))
       go (yes e) (no p) ih = ih (omega (arith, p))
       go (no f) (yes p) ih = rw (none-listed k (y + 1) (omega arith), p)
@@ -136,11 +137,11 @@ module _ (sig t : List ℕ) (ft : Fine sig t) (v : ℕ) where
   unifier : Unifier sig (items t) (shift 32 (items (variableQuestion v))) value
   unifier = rw (question-items v) (record { mgu = value-mgu; least = value-least })
 
-  value-listed : v < 32 → listed value ≡ ((32 + v) := items t) ∷ []
+  value-listed : v < 32 → listedBindings value ≡ ((32 + v) := items t) ∷ []
   value-listed l = one-listed value (32 + v) value-changes value-other 64 0 (omega arith) (omega arith) ∙ ap (λ u. ((32 + v) := u) ∷ []) (one-same (32 + v) (items t))
 
   value-bytes : v < 32 → Octets t → recordOf value ≡ termRecord v t
-  unfolding recordOf written fieldBytes bytes
+  unfolding recordOf writtenFields fieldBytes bytes
   value-bytes l o =
       let a : suc (suc (length t)) / 256 ≡ 0 = omega (arith, ft .short) in
       let b : suc (suc (length t)) % 256 ≡ 2 + length t = omega (arith, ft .short) in

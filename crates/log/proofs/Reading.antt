@@ -5,21 +5,21 @@ use mathlib.Core.List.{List, [], _∷_}
 use native.Mathlib.Omega.{arith}
 use lib.ListN.{length}
 use Rattle.log.specs.Fields.{fieldAt}
-use Rattle.log.specs.Reading.{past, placeAfter, before, fieldsWithin, fieldsFrom, fieldsOf, fieldOr, placeOf}
+use Rattle.log.specs.Reading.{past, placeAfter, fieldBefore, fieldsWithin, fieldsFrom, fieldsOf, fieldOr, placeOf}
 use Rattle.log.specs.declared.field.Field.{Field}
 use Rattle.log.specs.declared.field.Field.the-variants.{End, Cut, Whole}
 use Rattle.log.proofs.Fields.{field-end, field-inside}
 
 -- nothing is left at the end
 within-done : (k : ℕ) (s : List ℕ) (at : ℕ) → length s ≤ at → fieldsWithin k s at ≡ []
-unfolding fieldsWithin before
+unfolding fieldsWithin fieldBefore
 within-done zero s at h = refl
 within-done (suc k) s at h = rw (sym (field-end s at h)) refl
 
 -- the fields do not depend on how many there may be
 step-enough : (j k : ℕ) (s : List ℕ) (at : ℕ) (f : Field) → f ≡ fieldAt s at → (at < past f (length s) → fieldsWithin j s (past f (length s)) ≡ fieldsWithin k s (past f (length s)))
-    → before f (fieldsWithin j s (past f (length s))) ≡ before f (fieldsWithin k s (past f (length s)))
-unfolding before
+    → fieldBefore f (fieldsWithin j s (past f (length s))) ≡ fieldBefore f (fieldsWithin k s (past f (length s)))
+unfolding fieldBefore
 step-enough j k s at End e r = refl
 step-enough j k s at Cut e r = ap (λ l. Cut ∷ l) (within-done j s (length s) (omega arith) ∙ sym (within-done k s (length s) (omega arith)))
 step-enough j k s at (Whole tag start n) e r =
@@ -33,7 +33,7 @@ within-enough (suc j) zero s at h g = within-done (suc j) s at (omega arith)
 within-enough (suc j) (suc k) s at h g = step-enough j k s at (fieldAt s at) refl (λ less. within-enough j k s (placeAfter s at) (omega arith) (omega arith))
 
 -- what is left at a place: the field there, and what is left at the place after it
-pub next-first : (s : List ℕ) (at : ℕ) → fieldsFrom s at ≡ before (fieldAt s at) (fieldsFrom s (placeAfter s at))
+pub next-first : (s : List ℕ) (at : ℕ) → fieldsFrom s at ≡ fieldBefore (fieldAt s at) (fieldsFrom s (placeAfter s at))
 unfolding fieldsFrom fieldsWithin
 next-first s at =
     within-enough (length s - at) (suc (length s)) s at (omega arith) (omega arith)
@@ -45,14 +45,14 @@ unfolding placeOf
 stays-end zero s at h = field-end s at h
 stays-end (suc i) s at h = stays-end i s (placeAfter s at) (let e : placeAfter s at ≡ length s = ap (λ f. past f (length s)) (sym (field-end s at h)) in omega arith)
 
-first-is : (f : Field) (fs : List Field) → fieldOr (before f fs) 0 ≡ f
-unfolding fieldOr before
+first-is : (f : Field) (fs : List Field) → fieldOr (fieldBefore f fs) 0 ≡ f
+unfolding fieldOr fieldBefore
 first-is End fs = refl
 first-is Cut fs = refl
 first-is (Whole tag start n) fs = refl
 
-later-is : (i : ℕ) (s : List ℕ) (f : Field) (fs : List Field) → fieldOr fs i ≡ fieldAt s (placeOf s (past f (length s)) i) → fieldOr (before f fs) (suc i) ≡ fieldAt s (placeOf s (past f (length s)) i)
-unfolding fieldOr before
+later-is : (i : ℕ) (s : List ℕ) (f : Field) (fs : List Field) → fieldOr fs i ≡ fieldAt s (placeOf s (past f (length s)) i) → fieldOr (fieldBefore f fs) (suc i) ≡ fieldAt s (placeOf s (past f (length s)) i)
+unfolding fieldOr fieldBefore
 later-is i s End fs e = stays-end i s (length s) (omega arith)
 later-is i s Cut fs e = e
 later-is i s (Whole tag start n) fs e = e

@@ -21,15 +21,15 @@ abbrev pub takenAt : List ℕ → ℕ → Taken
 takenAt s at = record { field = fieldAt s at; place = placeAfter s at }
 
 -- a field before those that follow it; at the end there is none
-unfoldable pub before : Field → List Field → List Field
-before End fs = []
-before Cut fs = Cut ∷ fs
-before (Whole tag start n) fs = Whole tag start n ∷ fs
+unfoldable pub fieldBefore : Field → List Field → List Field
+fieldBefore End fs = []
+fieldBefore Cut fs = Cut ∷ fs
+fieldBefore (Whole tag start n) fs = Whole tag start n ∷ fs
 
 -- at most k fields from a place on
 unfoldable pub fieldsWithin : ℕ → List ℕ → ℕ → List Field
 fieldsWithin zero s at = []
-fieldsWithin (suc k) s at = before (fieldAt s at) (fieldsWithin k s (placeAfter s at))
+fieldsWithin (suc k) s at = fieldBefore (fieldAt s at) (fieldsWithin k s (placeAfter s at))
 
 -- the fields from a place on, up to the first cut one: never more than there are bytes
 unfoldable pub fieldsFrom : List ℕ → ℕ → List Field

@@ -3,7 +3,7 @@ use laws::SET_KEYS;
 ghost use mathlib.Core.Path.{_≡_};
 ghost use Prim.Native.Nat.{_<_};
 ghost use lib.ListN.{length, getD, set};
-ghost use Rattle.keysets.specs.KeySets.{four, mark as markOf, unmark as unmarkOf, on, off, Long};
+ghost use Rattle.keysets.specs.KeySets.{four, mark as markOf, unmark as unmarkOf, on, off, SetTablesLong};
 ghost use Rattle.laws.specs.Sizes.{keyLimit, slotCount};
 
 fn set_bit(t: &mut [u64], at: usize, b: usize)
@@ -23,7 +23,7 @@ fn clear_bit(t: &mut [u64], at: usize, b: usize)
 }
 
 pub fn mark(s0: &mut [u64], s1: &mut [u64], s2: &mut [u64], s3: &mut [u64], k: usize, s: usize)
-    requires { ⌜ Long (now s0) (now s1) (now s2) (now s3) × (k < keyLimit) × (s < slotCount) ⌝ }
+    requires { ⌜ SetTablesLong (now s0) (now s1) (now s2) (now s3) × (k < keyLimit) × (s < slotCount) ⌝ }
     ensures { λ _. ⌜ four (now (s0 .exit)) (now (s1 .exit)) (now (s2 .exit)) (now (s3 .exit))
         ≡ markOf (four (now (s0 .entry)) (now (s1 .entry)) (now (s2 .entry)) (now (s3 .entry))) k s ⌝ }
 {
@@ -46,7 +46,7 @@ pub fn mark(s0: &mut [u64], s1: &mut [u64], s2: &mut [u64], s3: &mut [u64], k: u
 }
 
 pub fn unmark(s0: &mut [u64], s1: &mut [u64], s2: &mut [u64], s3: &mut [u64], k: usize, s: usize)
-    requires { ⌜ Long (now s0) (now s1) (now s2) (now s3) × (k < keyLimit) × (s < slotCount) ⌝ }
+    requires { ⌜ SetTablesLong (now s0) (now s1) (now s2) (now s3) × (k < keyLimit) × (s < slotCount) ⌝ }
     ensures { λ _. ⌜ four (now (s0 .exit)) (now (s1 .exit)) (now (s2 .exit)) (now (s3 .exit))
         ≡ unmarkOf (four (now (s0 .entry)) (now (s1 .entry)) (now (s2 .entry)) (now (s3 .entry))) k s ⌝ }
 {

@@ -7,7 +7,8 @@ use Prim.Native.Nat.{ℕ, zero, suc, _+_, _-_, _/_, _≤_, _<_}
 use native.Mathlib.Decide.{ℕ-discrete}
 use native.Mathlib.Numerals.{add-one}
 use native.Mathlib.Omega.{arith}
-use lib.ListN.{length, getD, drop, take, set, length-set, length-drop, length-append, drop-of-length-le, take-append-drop}
+use lib.ListN.{length, getD, drop, take, set, length-set, length-drop, length-append, drop-of-length-le}
+use lib.ListN.{take-append-drop}
 use lib.Seq.{getD-set-same, getD-set-other, take-at}
 use borrow.Author.Tests.{lt-ltb, le-ltb}
 use Rattle.theory.specs.Flat.{Item, sy, va, Terms}
@@ -15,9 +16,10 @@ use Rattle.theory.specs.Subst.{vars, app, app-agree, term-length}
 use Rattle.theory.specs.Unify.{Bind, _:=_, Unbound, Has}
 use Rattle.theory.specs.Cut.{first, rest, first-rest, first-terms, rest-terms, first-append}
 use Rattle.theory.specs.Items.{item16, item16-one, items, length-items, items-at, items-drop, Fine}
-use Rattle.theory.specs.Nodes.{val, val-var, Next}
+use Rattle.theory.specs.Nodes.{val, val-var, NextNode}
 use Rattle.theory.specs.Relations.{Instance, Variant}
-use Rattle.theory.specs.Match.{Inv, start, step-symbol, step-new, step-old, none-symbol, none-differs, found, once, once-sub, agrees-once, agrees-has}
+use Rattle.theory.specs.Match.{MatchInv, start, step-symbol, step-new, step-old, none-symbol, none-differs, found, once}
+use Rattle.theory.specs.Match.{once-sub, agrees-once, agrees-has}
 use Rattle.laws.specs.Sizes.{variableBase}
 use Rattle.terms.specs.Terms.{arity, itemAt}
 
@@ -36,7 +38,7 @@ module _ (sig p t : List ℕ) where
   pub record Going (tab : List ℕ) (i j : ℕ) : Type 0 where
     pub binds : List Bind
     pub count : ℕ
-    pub inv : Inv (arity sig) (items p) (items t) binds count (drop i (items p)) (drop j (items t))
+    pub inv : MatchInv (arity sig) (items p) (items t) binds count (drop i (items p)) (drop j (items t))
     pub table : (y : ℕ) → Entry binds j y (getD tab y 0)
     pub many : length tab ≡ 32
     pub low : j ≤ length t / 2
@@ -84,7 +86,7 @@ module _ (sig p t : List ℕ) where
           sym-t : drop j (items t) ≡ sy (itemAt p i) ∷ drop (j + 1) (items t)
           sym-t = head-t ∙ ap (λ (r : Item). r ∷ drop (j + 1) (items t)) (ap item16 e ∙ sym-item (itemAt p i) f)
 
-          go : (k : ℕ) → Inv (arity sig) (items p) (items t) (g .binds) k (sy (itemAt p i) ∷ drop (i + 1) (items p)) (sy (itemAt p i) ∷ drop (j + 1) (items t)) → Going tab (i + 1) (j + 1)
+          go : (k : ℕ) → MatchInv (arity sig) (items p) (items t) (g .binds) k (sy (itemAt p i) ∷ drop (i + 1) (items p)) (sy (itemAt p i) ∷ drop (j + 1) (items t)) → Going tab (i + 1) (j + 1)
           go zero v = absurd (v .left)
           go (suc k) v = record {
             binds = g .binds;
@@ -117,12 +119,12 @@ module _ (sig p t : List ℕ) where
           = sym (ap (app σ) var-p) ∙ d ∙ head-t ∙ ap (λ (c : Item). c ∷ drop (j + 1) (items t)) (sym-item (itemAt t j) b) in
           let z : _≡_ {A = ℕ} 0 1 = cc in omega arith
 
-      module _ (e : ℕ) (next : Next (arity sig) (items t) j e) (je : j < e) (el : e ≤ length t / 2) where
+      module _ (e : ℕ) (next : NextNode (arity sig) (items t) j e) (je : j < e) (el : e ≤ length t / 2) where
         whole : drop j (items t) ≡ val (arity sig) (items t) j ++ drop e (items t)
         whole = sym (first-rest (arity sig) 1 (drop j (items t))) ∙ ap (λ (r : List Item). first (arity sig) 1 (drop j (items t)) ++ r) (sym next)
 
         abbrev Step : ℕ → Type 0
-        Step k = Inv (arity sig) (items p) (items t) (g .binds) (suc k) (va x ∷ drop (i + 1) (items p))
+        Step k = MatchInv (arity sig) (items p) (items t) (g .binds) (suc k) (va x ∷ drop (i + 1) (items p))
             (val (arity sig) (items t) j ++ drop e (items t))
 
         term-u : (k : ℕ) → Terms (arity sig) (suc k) (drop j (items t)) → Terms (arity sig) 1 (val (arity sig) (items t) j)
@@ -135,7 +137,7 @@ module _ (sig p t : List ℕ) where
         taken : {A : Type 0} → ((k : ℕ) → Terms (arity sig) 1 (val (arity sig) (items t) j) → Terms (arity sig) k (drop e (items t)) → Step k → A) → A
         taken {A = A} h = go (g .count) (g .inv)
           where
-            go : (k : ℕ) → Inv (arity sig) (items p) (items t) (g .binds) k (drop i (items p)) (drop j (items t)) → A
+            go : (k : ℕ) → MatchInv (arity sig) (items p) (items t) (g .binds) k (drop i (items p)) (drop j (items t)) → A
             go zero v = absurd (rw var-p at (v .left))
             go (suc k) v = h k (term-u k (v .right)) (term-e k (v .right)) (rw (var-p, whole) at v)
 
@@ -197,7 +199,7 @@ module _ (sig p t : List ℕ) where
         gone : drop i (items p) ≡ []
         gone = drop-of-length-le (items p) {i = i} (omega (arith, length-items p))
 
-        go : (k : ℕ) (m : List Item) → Inv (arity sig) (items p) (items t) (g .binds) k [] m → app (once (g .binds)) (items p) ≡ items t
+        go : (k : ℕ) (m : List Item) → MatchInv (arity sig) (items p) (items t) (g .binds) k [] m → app (once (g .binds)) (items p) ≡ items t
         go (suc k) m v = absurd (v .left)
         go zero (a ∷ m) v = absurd (v .right)
         go zero [] v = found (arity sig) (items p) (items t) (g .binds) v
@@ -209,7 +211,7 @@ module _ (sig p t : List ℕ) where
     once-free [] y n = refl
     once-free ((z := v) ∷ B) y n = go (ℕ-discrete z y) (once-free B y (n .1))
       where
-        go : (d : Dec (z ≡ y)) → once B y ≡ vars y → Rattle.theory.specs.Unify.pick d v (once B y) ≡ vars y
+        go : (d : Dec (z ≡ y)) → once B y ≡ vars y → Rattle.theory.specs.Unify.pickDecided d v (once B y) ≡ vars y
         go (yes e) h = absurd (n .0 e)
         go (no d) h = h
 

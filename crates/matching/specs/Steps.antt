@@ -10,7 +10,7 @@ use native.Mathlib.Omega.{arith}
 use lib.ListN.{length, getD, drop, take, set}
 use lib.Seq.{getD-set-same, getD-set-other}
 use Rattle.theory.specs.Items.{items}
-use Rattle.theory.specs.Nodes.{Next}
+use Rattle.theory.specs.Nodes.{NextNode}
 use Rattle.theory.specs.Relations.{Decided, Instance, Variant}
 use Rattle.theory.specs.Subst.{vars}
 use Rattle.matching.specs.Going.{Going, going-symbol, going-clash, going-new, going-old, going-differs}
@@ -19,7 +19,7 @@ use Rattle.terms.specs.Terms.{arity, itemAt}
 
 -- the term at item j of t ends before item e
 pub record EndsAt (sig t : List ℕ) (j e : ℕ) : Type 0 where
-  pub next : Next (arity sig) (items t) j e
+  pub next : NextNode (arity sig) (items t) j e
   pub ahead : j < e
   pub low : e ≤ length t / 2
 

@@ -21,15 +21,16 @@ use Rattle.theory.specs.Unify.{Bind, full}
 use Rattle.definitions.specs.Spelt.{clash}
 use Rattle.definitions.specs.Decisions.{bindings?}
 use Rattle.definitions.specs.Records.{recordOf}
-use Rattle.definitions.specs.Answers.{Answer, refused, done, refusalIn, firstIn, secondIn, written, unless, longFrom, recorded}
+use Rattle.definitions.specs.Answers.{Answer, refused, done, refusalIn, firstIn, secondIn, written, unless, longFrom}
+use Rattle.definitions.specs.Answers.{recorded}
 use Rattle.layout.specs.Tables.{Tables, ample}
 use Rattle.layout.specs.Layout.{signatureOf, isUsed, termOf}
 use Rattle.library.specs.Store.{Call, openWith, insert, delete, withKey, retrieve, solve}
 use Rattle.calls.specs.declared.Reply.{Reply}
 use Rattle.calls.specs.declared.Reply.the-variants.{Done, Refused}
 use Rattle.calls.specs.Outcome.{Outcome, outcome, Result, result, guarded, told}
-use Rattle.store.specs.Tables.{upsOf, endsOf, roomFor, openedWith, freeSlot, insertedAt, deletedAt, slotsWith}
-use Rattle.store.specs.Calls.{opening, insertAnswer, inserting, deleting, asking}
+use Rattle.store.specs.Tables.{upsOf, endsOf, roomFor, openedWith, freeSlot, insertedAt, deletedAt, slotsOfKey}
+use Rattle.store.specs.Calls.{opening, insertAnswer, inserting, deleting, keyQuestion}
 use Rattle.retrieve.specs.Retrieving.{answersOf, retrieveAnswer, retrieving}
 use Rattle.solving.specs.Solving.{solveAnswer, solving}
 use Rattle.meaning.specs.Runs.{carried, Called}
@@ -129,12 +130,12 @@ delete-guarded T s = record {
   left = refl;
 }
 
-ask-guarded : (T : Tables) (k : List ℕ) (room : ℕ) → Guarded T (asking T k room)
-unfolding asking
+ask-guarded : (T : Tables) (k : List ℕ) (room : ℕ) → Guarded T (keyQuestion T k room)
+unfolding keyQuestion
 ask-guarded T k room = record {
   rest = _;
   is = refl;
-  other = other (isKey (signatureOf (T .bytes)) k) _ _ (other (ltb room (2 * length (members (slotsWith T k)))) _ _ (of-name Refusal.Room (λ z. omega arith)) (inl refl)) (of-name Refusal.Key (λ z. omega arith));
+  other = other (isKey (signatureOf (T .bytes)) k) _ _ (other (ltb room (2 * length (members (slotsOfKey T k)))) _ _ (of-name Refusal.Room (λ z. omega arith)) (inl refl)) (of-name Refusal.Key (λ z. omega arith));
   changed = T;
   left = refl;
 }
@@ -205,11 +206,11 @@ either-way (refused n) T = refl
 either-way (done a b w) T = refl
 
 asks-left : (T : Tables) (c : Call) → Asks c → carried T c .after ≡ T
-unfolding asking retrieving solving
+unfolding keyQuestion retrieving solving
 asks-left T (openWith sig) h = absurd h
 asks-left T (insert t) h = absurd h
 asks-left T (delete s) h = absurd h
-asks-left T (withKey k room) h = either-way (asking T k room .answer) T
+asks-left T (withKey k room) h = either-way (keyQuestion T k room .answer) T
 asks-left T (retrieve r q room) h = either-way (retrieving T r q room .answer) T
 asks-left T (solve s q room) h = either-way (solving T s q room .answer) T
 

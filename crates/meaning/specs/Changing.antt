@@ -13,7 +13,8 @@ use lib.ListN.{length}
 use Rattle.laws.specs.Choice.{pick}
 use Rattle.terms.specs.Terms.{aritiesGood, sigRefusal, refusal}
 use Rattle.definitions.specs.Spelt.{clash}
-use Rattle.library.specs.Store.{Store, holding, inUse, freeFrom, firstFree, put, keyCount, openWith, insert, delete, answered, empty, after}
+use Rattle.library.specs.Store.{Store, holding, inUse, freeFrom, firstFree, put, keyCount, openWith, insert, delete}
+use Rattle.library.specs.Store.{answered, empty, after}
 use Rattle.layout.specs.Tables.{Tables, ample}
 use Rattle.layout.proofs.LayoutLaws.{long}
 use Rattle.store.specs.Tables.{upsOf, endsOf, roomFor, openedWith, insertedAt, deletedAt}

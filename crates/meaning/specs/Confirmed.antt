@@ -25,7 +25,7 @@ use Rattle.retrieve.specs.RetrievalMeans.{Indexed, candidates-exact, answers-sl
 use Rattle.confirming.specs.Those.{SlotsBy}
 use Rattle.retrieve.specs.Retrieving.{candidatesOf, answersOf, retrieveAnswer, retrieving}
 use Rattle.solving.specs.Solving.{solveAnswer, solving}
-use Rattle.store.specs.TablesHold.{filled, treeIn}
+use Rattle.store.specs.TablesHold.{filled, storedTree}
 use Rattle.meaning.specs.Stand.{Stand, treesOf, stand-ample, stand-slots, in-use, Means, question-means}
 use Rattle.meaning.specs.Lists.{members-slots}
 use Rattle.laws.specs.Sizes.{slotCount}
@@ -46,7 +46,7 @@ module _ (T : Tables) (st : Store) (h : Stand T st) where
   indexed = record {
     good = h .holds .index;
     term = λ s l u. let w = slot-held s l u in rw (h .holds .signature, h .holds .terms s (w .0) (w .1) .0) (h .holds .terms s (w .0) (w .1) .1);
-    tree = λ s l u. let w = slot-held s l u in rw (h .holds .signature, h .holds .terms s (w .0) (w .1) .0) (ap (treeIn (st .signature)) (w .1));
+    tree = λ s l u. let w = slot-held s l u in rw (h .holds .signature, h .holds .terms s (w .0) (w .1) .0) (ap (storedTree (st .signature)) (w .1));
   }
 
   -- a test of the terms that the slots in use hold
@@ -113,7 +113,7 @@ module _ (T : Tables) (st : Store) (h : Stand T st) where
           → pick b (pick (eqb (refusal (st .signature) q) 0)
           (pick (eqb (refusal (st .signature) (termOf (T .bytes) s)) 0) (recorded (bindings? (st .signature) (termOf (T .bytes) s) q) room) (refused 13))
           (refused (refusal (st .signature) q))) (refused 4)
-          ≡ pick b (Abstract.solving (st .signature) (st .held s) q room) (refused 4)
+          ≡ pick b (Abstract.solvingHeld (st .signature) (st .held s) q room) (refused 4)
       go false u = refl
       go true u =
           let y = in-use st s u .1 in

@@ -22,14 +22,14 @@ use Rattle.paths.specs.StoredTrees.{Stored, KeyIn}
 use Rattle.paths.specs.Count.{Distinct}
 use Rattle.layout.specs.Tables.{Tables}
 use Rattle.store.specs.Tables.{upsOf, endsOf, roomFor}
-use Rattle.store.specs.TablesHold.{treeIn, changed}
+use Rattle.store.specs.TablesHold.{storedTree, changed}
 use Rattle.store.specs.Changes.{KeysOf, room-means}
 use Rattle.meaning.specs.Stand.{Stand, treesOf}
 use Rattle.laws.specs.Sizes.{keyLimit, slotCount}
 
 module _ (st : Store) where
   -- a key of what a slot holds
-  in-keys : (o : Option (List ℕ)) (P : Place) (e : ℕ) → In (key P e) (keysIn (st .signature) o) ↔ KeyIn (treeIn (st .signature) o) P e
+  in-keys : (o : Option (List ℕ)) (P : Place) (e : ℕ) → In (key P e) (keysIn (st .signature) o) ↔ KeyIn (storedTree (st .signature) o) P e
   in-keys none P e = ((λ i. i), (λ i. i))
   in-keys (some t) P e = keys-stand (st .signature) t (key P e)
 
@@ -53,7 +53,7 @@ module _ (st : Store) where
     where
       go : Dec (u < slotCount) → u < slotCount
       go (yes l) = l
-      go (no l) = absurd (subst (λ (o : Option (List ℕ)). KeyIn (treeIn (st .signature) o) P e) (b u (omega arith)) h)
+      go (no l) = absurd (subst (λ (o : Option (List ℕ)). KeyIn (storedTree (st .signature) o) P e) (b u (omega arith)) h)
 
   -- the distinct keys of the stored terms are as many as keyCount says
   pub key-count : ((s : ℕ) → slotCount ≤ s → st .held s ≡ none) → Distinct (Stored (treesOf st)) (keyCount st)

@@ -17,7 +17,8 @@ use Rattle.definitions.specs.Answers.{Answer, refusalIn, firstIn, secondIn, wri
 use Rattle.library.specs.Readable.{Ascending}
 use Rattle.library.specs.Store.{Store, withKey, retrieve, solve}
 use Rattle.library.specs.Longest.{listingMost, recordMost, solve-roomy, retrieve-roomy, key-roomy}
-use Rattle.library.specs.VariableQuestion.{variableQuestion, termRecord, solve-term, stored-instance, instances-answered}
+use Rattle.library.specs.VariableQuestion.{variableQuestion, termRecord, solve-term, stored-instance}
+use Rattle.library.specs.VariableQuestion.{instances-answered}
 use Rattle.calls.specs.Outcome.{Outcome}
 use Rattle.meaning.specs.Told.{front-bytes, term-octets}
 use Rattle.meaning.specs.Runs.{Called, Run}

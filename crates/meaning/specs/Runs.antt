@@ -1,6 +1,6 @@
 -- SCOPE.md, 'Store': calls on lent tables, and runs of them. What a call means is what its contract says: `carried`
--- has one line for each call's function (crates opening, inserting, deleting, keyquestion and retrieve), whose contract
--- is `outcome .. ≡ told .. (that line)`.
+-- has one line for each call's function (crates opening, inserting, deleting, keyquestion, retrieve and solving), whose
+-- contract is `outcome .. ≡ told .. (that line)`.
 use Prim.Native.Nat.{ℕ}
 use mathlib.Core.Path.{_≡_}
 use mathlib.Core.List.{List}
@@ -12,7 +12,7 @@ use Rattle.layout.specs.Tables.{Tables}
 use Rattle.definitions.specs.Answers.{refusalIn, firstIn, secondIn, written}
 use Rattle.library.specs.Store.{Store, Call, openWith, insert, delete, withKey, retrieve, solve, roomOf, empty, after}
 use Rattle.calls.specs.Outcome.{Outcome, Result, told}
-use Rattle.store.specs.Calls.{opening, inserting, deleting, asking}
+use Rattle.store.specs.Calls.{opening, inserting, deleting, keyQuestion}
 use Rattle.retrieve.specs.Retrieving.{retrieving}
 use Rattle.solving.specs.Solving.{solving}
 
@@ -21,7 +21,7 @@ abbrev pub carried : Tables → Call → Result
 carried T (openWith sig) = opening T sig
 carried T (insert t) = inserting T t
 carried T (delete s) = deleting T s
-carried T (withKey k room) = asking T k room
+carried T (withKey k room) = keyQuestion T k room
 carried T (retrieve r q room) = retrieving T r q room
 carried T (solve s q room) = solving T s q room
 

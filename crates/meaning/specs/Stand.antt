@@ -19,7 +19,7 @@ use Rattle.definitions.specs.Answers.{Answer, refused, done, unless}
 use Rattle.calls.specs.Outcome.{Result, result}
 use Rattle.library.specs.Store.{Store, holding, inUse}
 use Rattle.library.specs.Sound.{Sound}
-use Rattle.store.specs.TablesHold.{filled, trees, Holds, holds-ample}
+use Rattle.store.specs.TablesHold.{filled, storedTrees, Holds, holds-ample}
 use Rattle.store.specs.Changes.{use-means}
 use Rattle.laws.specs.Sizes.{slotCount}
 
@@ -30,7 +30,7 @@ pub record Stand (T : Tables) (st : Store) : Type 0 where
 
 -- the trees of what the slots hold
 abbrev pub treesOf : Store → ℕ → Option Tm
-treesOf st = trees (st .signature) (st .held)
+treesOf st = storedTrees (st .signature) (st .held)
 
 module _ (T : Tables) (st : Store) (h : Stand T st) where
   pub stand-ample : ample T ≡ true

@@ -22,12 +22,13 @@ use Rattle.theory.specs.Solver.{once-cases}
 use Rattle.definitions.specs.Spelt.{clash}
 use Rattle.definitions.specs.Decisions.{bindings?}
 use Rattle.definitions.specs.Records.{recordOf, countOf}
-use Rattle.definitions.specs.ReadBack.{Ascends, Octets}
+use Rattle.definitions.specs.ReadBack.{FieldsAscend, Octets}
 use Rattle.definitions.specs.Answers.{Answer, refused, slot, slots, found, solved, refusalIn, longFrom, recorded}
 use Rattle.layout.specs.Layout.{termOf}
 use Rattle.library.specs.Sound.{Sound, free-most}
 use Rattle.library.specs.Readable.{use-held}
-use Rattle.library.specs.Store.{Store, holding, inUse, firstFree, put, keyCount, keyed, answered, after, answers, candidates, insert, delete, withKey, retrieve, solve}
+use Rattle.library.specs.Store.{Store, holding, inUse, firstFree, put, keyCount, keyed, answered, after, answers}
+use Rattle.library.specs.Store.{candidates, insert, delete, withKey, retrieve, solve}
 use Rattle.slots.specs.Slots.{listed}
 use Rattle.listing.proofs.Listing.{length-listed}
 use Rattle.laws.specs.Sizes.{keyLimit, slotCount, lengthsStart, termsStart}
@@ -41,12 +42,12 @@ pub front-read : (w rest out : List ℕ) (n : ℕ) → n ≡ length w → out �
 front-read w rest out n e f = rw (e, f) (take-at w rest (length w) refl)
 
 -- a retrieval that is not refused
-pub record Told (st : Store) (relation room : ℕ) (q : List ℕ) : Type 0 where
+pub record Retrieved (st : Store) (relation room : ℕ) (q : List ℕ) : Type 0 where
   pub is : answered st (retrieve relation q room) ≡ found (length (candidates st relation q)) (answers st relation q)
   pub checked : refusal (st .signature) q ≡ 0
   pub fits : length (listed (answers st relation q)) ≤ room
 
-pub retrieve-found : (st : Store) (relation room : ℕ) (q : List ℕ) → refusalIn (answered st (retrieve relation q room)) ≡ 0 → Told st relation room q
+pub retrieve-found : (st : Store) (relation room : ℕ) (q : List ℕ) → refusalIn (answered st (retrieve relation q room)) ≡ 0 → Retrieved st relation room q
 unfolding answered
 retrieve-found st relation room q = go (ltb 4 relation) refl (eqb (refusal (st .signature) q) 0) refl (ltb room (2 * length (answers st relation q))) refl
   where
@@ -54,7 +55,7 @@ retrieve-found st relation room q = go (ltb 4 relation) refl (eqb (refusal (st .
     x = found (length (candidates st relation q)) (answers st relation q)
 
     go : (a : Bool) → ltb 4 relation ≡ a → (b : Bool) → eqb (refusal (st .signature) q) 0 ≡ b → (c : Bool) → ltb room (2 * length (answers st relation q)) ≡ c
-        → refusalIn (answered st (retrieve relation q room)) ≡ 0 → Told st relation room q
+        → refusalIn (answered st (retrieve relation q room)) ≡ 0 → Retrieved st relation room q
     go true e b f c g z = absurd (let y = rw e at z in let u : _≡_ {A = ℕ} 3 0 = y in omega arith)
     go false e false f c g z = absurd (eqb-false (refusal (st .signature) q) 0 f (rw (e, f) at z))
     go false e true f true g z = absurd (let y = rw (e, f, g) at z in let u : _≡_ {A = ℕ} 15 0 = y in omega arith)
@@ -119,18 +120,18 @@ unfolding put
 put-signature st s o = refl
 
 -- an insert that is not refused
-pub record Placed (st : Store) (t : List ℕ) : Type 0 where
+pub record Inserted (st : Store) (t : List ℕ) : Type 0 where
   pub is : answered st (insert t) ≡ slot (firstFree st)
   pub below : firstFree st < slotCount
   pub next : after st (insert t) ≡ put st (firstFree st) (some t)
 
-pub insert-found : (st : Store) (t : List ℕ) → refusalIn (answered st (insert t)) ≡ 0 → Placed st t
+pub insert-found : (st : Store) (t : List ℕ) → refusalIn (answered st (insert t)) ≡ 0 → Inserted st t
 unfolding answered after
 insert-found st t = go (eqb (refusal (st .signature) t) 0) refl (eqb (firstFree st) slotCount) refl (ltb keyLimit (keyCount (put st (firstFree st) (some t)))) refl
   where
     go : (a : Bool) → eqb (refusal (st .signature) t) 0 ≡ a → (b : Bool) → eqb (firstFree st) slotCount ≡ b
         → (c : Bool) → ltb keyLimit (keyCount (put st (firstFree st) (some t))) ≡ c
-        → refusalIn (answered st (insert t)) ≡ 0 → Placed st t
+        → refusalIn (answered st (insert t)) ≡ 0 → Inserted st t
     go false e b f c g z = absurd (eqb-false (refusal (st .signature) t) 0 e (rw e at z))
     go true e true f c g z = absurd (let y = rw (e, f) at z in let u : _≡_ {A = ℕ} 11 0 = y in omega arith)
     go true e false f true g z = absurd (let y = rw (e, f, g) at z in let u : _≡_ {A = ℕ} 12 0 = y in omega arith)
@@ -164,15 +165,15 @@ delete-found st s = go (inUse st s) refl
     go true e z = record { is = rw e; used = e; next = rw e }
 
 -- THE FIELDS OF A RECORD: ascending, so that each variable has at most one, and that one's value
-ascends-unbound : (x b : ℕ) (r : List Bind) → x < b → Ascends b r → Unbound x r
+ascends-unbound : (x b : ℕ) (r : List Bind) → x < b → FieldsAscend b r → Unbound x r
 ascends-unbound x b [] l a = tt
 ascends-unbound x b ((y := u) ∷ r) l a = ((λ e. omega (arith, e, l, a .0)), ascends-unbound x (suc y) r (omega (arith, l, a .0)) (a .1))
 
-ascends-once : (b : ℕ) (r : List Bind) → Ascends b r → Once r
+ascends-once : (b : ℕ) (r : List Bind) → FieldsAscend b r → Once r
 ascends-once b [] a = tt
 ascends-once b ((y := u) ∷ r) a = (ascends-unbound y (suc y) r (omega arith) (a .1), ascends-once (suc y) r (a .1))
 
-pub field-value : (r : List Bind) → Ascends 0 r → (y : ℕ) (u : List Item) → Has y u r → once r y ≡ u
+pub field-value : (r : List Bind) → FieldsAscend 0 r → (y : ℕ) (u : List Item) → Has y u r → once r y ≡ u
 field-value r a y u h = agrees-has (once r) y u r h (agrees-once (λ x. 0) r (ascends-once 0 r a))
 
 pub field-none : (r : List Bind) (y : ℕ) → Unbound y r → once r y ≡ vars y

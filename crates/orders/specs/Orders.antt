@@ -6,7 +6,7 @@ use Rattle.refusals.specs.declared.Refusal.the-variants as Refusal
 use Rattle.definitions.specs.Answers.{refuse}
 use Rattle.layout.specs.Tables.{Tables}
 use Rattle.calls.specs.Outcome.{Result, result}
-use Rattle.store.specs.Calls.{opening, inserting, deleting, asking}
+use Rattle.store.specs.Calls.{opening, inserting, deleting, keyQuestion}
 use Rattle.retrieve.specs.Retrieving.{retrieving}
 use Rattle.solving.specs.Solving.{solving}
 use Rattle.calls.specs.declared.Order.{Order}
@@ -14,7 +14,7 @@ use Rattle.calls.specs.declared.Order.the-variants.{Open, Insert, Delete, WithK
 
 -- the calls that change no table; anything else is refused as LOG
 abbrev pub asked : Order → Tables → List ℕ → ℕ → Result
-asked WithKey T t room = asking T t room
+asked WithKey T t room = keyQuestion T t room
 asked (Retrieve r) T t room = retrieving T r t room
 asked (Solve s) T t room = solving T s t room
 asked Open T t room = result (refuse Refusal.Log) T T

@@ -15,7 +15,7 @@ use Rattle.terms.specs.Terms.{Signed, refusal}
 use Rattle.definitions.specs.Trees.{countArgs, IsSymbol, Variable, Shaped, Shapes, treeOf}
 use Rattle.definitions.specs.Candidates.{agree, agreeAll, opens, stars, candidate, isCandidate}
 use Rattle.definitions.specs.Spelt.{end-variable, end-symbol, shaped-count, tree-shaped}
-use Rattle.paths.specs.Cand.{Agree, Agrees}
+use Rattle.paths.specs.Cand.{Agree, AllAgree}
 use Rattle.laws.specs.Sizes.{variableBase}
 use Rattle.terms.specs.Terms.{arity}
 
@@ -35,7 +35,8 @@ module _ (qv tv : Bool) (x y : ℕ) (all : Bool) (All : Type 0) where
   abbrev Table : Type 0
   Table = (pick (leb variableBase x) (pick (leb variableBase y) true qv)
       (pick (leb variableBase y) tv (pick (eqb x y) all false)) ≡ true)
-      ↔ pick (leb variableBase x) (pick qv (Unit {0}) (endOf y ≡ 256)) ((T tv × (endOf y ≡ 256)) ⊎ ((endOf y ≡ endOf x) × All))
+      ↔ pick (leb variableBase x) (pick qv (Unit {0}) (endOf y ≡ 256))
+      ((T tv × (endOf y ≡ 256)) ⊎ ((endOf y ≡ endOf x) × All))
 
   both-variables : variableBase ≤ x → variableBase ≤ y → Table
   both-variables h k = rw (le-leb variableBase x h, le-leb variableBase y k) ((λ e. go qv), (λ e. refl))
@@ -83,19 +84,19 @@ module _ (qv tv : Bool) (sig : List ℕ) (s : Signed sig) where
         (λ e. agreeAll-means us vs (w .1) (v .1) (shaped-count sig (s .short) x us w ∙ ap (λ (z : ℕ). arity sig z) e ∙ sym (shaped-count sig (s .short) y vs v)))
       where
         go : (IsSymbol sig x × (countArgs us ≡ arity sig x)) ⊎ (Variable x × (countArgs us ≡ 0)) → (IsSymbol sig y × (countArgs vs ≡ arity sig y)) ⊎ (Variable y × (countArgs vs ≡ 0))
-            → (x ≡ y → (agreeAll qv tv us vs ≡ true) ↔ Agrees qv tv us vs) → Table qv tv x y (agreeAll qv tv us vs) (Agrees qv tv us vs)
+            → (x ≡ y → (agreeAll qv tv us vs ≡ true) ↔ AllAgree qv tv us vs) → Table qv tv x y (agreeAll qv tv us vs) (AllAgree qv tv us vs)
         go (inl a) (inl b) ih = both-symbols qv tv x y _ _ (omega (arith, a .0, s .short)) (omega (arith, b .0, s .short)) ih
         go (inl a) (inr b) ih = stored-variable qv tv x y _ _ (omega (arith, a .0, s .short)) (b .0 .0)
         go (inr a) (inl b) ih = question-variable qv tv x y _ _ (a .0 .0) (omega (arith, b .0, s .short))
         go (inr a) (inr b) ih = both-variables qv tv x y _ _ (a .0 .0) (b .0 .0)
 
-    agreeAll-means : (us vs : Args) → Shapes sig us → Shapes sig vs → countArgs us ≡ countArgs vs → (agreeAll qv tv us vs ≡ true) ↔ Agrees qv tv us vs
+    agreeAll-means : (us vs : Args) → Shapes sig us → Shapes sig vs → countArgs us ≡ countArgs vs → (agreeAll qv tv us vs ≡ true) ↔ AllAgree qv tv us vs
     agreeAll-means nil nil w v c = ((λ e. tt), (λ e. refl))
     agreeAll-means nil (cons u vs) w v c = absurd (omega arith)
     agreeAll-means (cons u us) nil w v c = absurd (omega arith)
     agreeAll-means (cons u us) (cons z vs) w v c = both (agree qv tv u z) (agree-means u z (w .0) (v .0)) (agreeAll-means us vs (w .1) (v .1) (omega arith))
       where
-        both : (b : Bool) → (b ≡ true) ↔ Agree qv tv u z → (agreeAll qv tv us vs ≡ true) ↔ Agrees qv tv us vs → (pick b (agreeAll qv tv us vs) false ≡ true) ↔ (Agree qv tv u z × Agrees qv tv us vs)
+        both : (b : Bool) → (b ≡ true) ↔ Agree qv tv u z → (agreeAll qv tv us vs ≡ true) ↔ AllAgree qv tv us vs → (pick b (agreeAll qv tv us vs) false ≡ true) ↔ (Agree qv tv u z × AllAgree qv tv us vs)
         both true f g = ((λ e. (f .0 refl, g .0 e)), (λ e. g .1 (e .1)))
         both false f g = ((λ e. false-true e), (λ e. f .1 (e .0)))
 

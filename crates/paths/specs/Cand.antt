@@ -10,7 +10,8 @@ use native.Mathlib.Nat.{add-zero}
 use lib.Dec.{T, leb}
 use Rattle.laws.specs.Choice.{pick}
 use Rattle.chains.specs.Chains.{find}
-use Rattle.keys.specs.Keys.{Place, step, key, Tm, Args, node, nil, cons, endOf, HasKey, subAt, topOf, down, nth, down-some}
+use Rattle.keys.specs.Keys.{Place, step, key, Tm, Args, node, nil, cons, endOf, HasKey, subAt, topOf, down, nth}
+use Rattle.keys.specs.Keys.{down-some}
 use Rattle.definitions.specs.Trees.{countArgs}
 use Rattle.paths.specs.Rep.{lab, At, kid, Den, Rep, find-den, find-there}
 use Rattle.paths.specs.StoredTrees.{Stored, KeyIn}
@@ -30,12 +31,14 @@ module _ (qv tv : Bool) where
   -- what the walk finds of two terms, by the ends of their paths: SCOPE.md's table (Agreeing shows that)
   unfoldable mutual
     pub Agree : Tm → Tm → Type 0
-    Agree (node x us) (node y vs) = pick (leb variableBase x) (pick qv (Unit {0}) (endOf y ≡ 256)) ((T tv × (endOf y ≡ 256)) ⊎ ((endOf y ≡ endOf x) × Agrees us vs))
+    Agree (node x us) (node y vs) = pick (leb variableBase x)
+        (pick qv (Unit {0}) (endOf y ≡ 256))
+        ((T tv × (endOf y ≡ 256)) ⊎ ((endOf y ≡ endOf x) × AllAgree us vs))
 
-    pub Agrees : Args → Args → Type 0
-    Agrees nil vs = Unit {0}
-    Agrees (cons q us) nil = ⊥
-    Agrees (cons q us) (cons v vs) = Agree q v × Agrees us vs
+    pub AllAgree : Args → Args → Type 0
+    AllAgree nil vs = Unit {0}
+    AllAgree (cons q us) nil = ⊥
+    AllAgree (cons q us) (cons v vs) = Agree q v × AllAgree us vs
 
   -- the walk: sets as what is in them
   module _ (link label : List ℕ) (mem : ℕ → ℕ → Type 0) where
@@ -45,7 +48,10 @@ module _ (qv tv : Bool) where
 
     unfoldable mutual
       pub walkT : Tm → ℕ → (ℕ → Type 0) → ℕ → Type 0
-      walkT (node x us) n W t = pick (leb variableBase x) (pick qv (W t) (W t × At? n 256 t)) ((T tv × W t × At? n 256 t) ⊎ walkA us (find link label (lab n (endOf x)) * 8) (λ u. W u × At? n (endOf x) u) t)
+      walkT (node x us) n W t = pick (leb variableBase x)
+          (pick qv (W t) (W t × At? n 256 t))
+          ((T tv × W t × At? n 256 t)
+          ⊎ walkA us (find link label (lab n (endOf x)) * 8) (λ u. W u × At? n (endOf x) u) t)
 
       pub walkA : Args → ℕ → (ℕ → Type 0) → ℕ → Type 0
       walkA nil m W t = W t
@@ -105,24 +111,24 @@ module _ (qv tv : Bool) where
             R = walkA us (k * 8) (λ u. W u × At? n (endOf x) u) s
 
             go : (b c : Bool) → At? n 256 s ↔ (endOf y ≡ 256) → At? n (endOf x) s ↔ (endOf y ≡ endOf x)
-                → (Den label k P (endOf x) → endOf y ≡ endOf x → R ↔ ((W s × At? n (endOf x) s) × Agrees us vs))
-                → pick b (pick c (W s) (W s × At? n 256 s)) ((T tv × W s × At? n 256 s) ⊎ R) ↔ (W s × pick b (pick c (Unit {0}) (endOf y ≡ 256)) ((T tv × (endOf y ≡ 256)) ⊎ ((endOf y ≡ endOf x) × Agrees us vs)))
+                → (Den label k P (endOf x) → endOf y ≡ endOf x → R ↔ ((W s × At? n (endOf x) s) × AllAgree us vs))
+                → pick b (pick c (W s) (W s × At? n 256 s)) ((T tv × W s × At? n 256 s) ⊎ R) ↔ (W s × pick b (pick c (Unit {0}) (endOf y ≡ 256)) ((T tv × (endOf y ≡ 256)) ⊎ ((endOf y ≡ endOf x) × AllAgree us vs)))
             go true true p m ih = ((λ h. (h, tt)), (λ h. h .0))
             go true false p m ih = ((λ h. (h .0, p .0 (h .1))), (λ h. (h .0, p .1 (h .1))))
             go false c p m ih = (to, fro)
               where
-                to : (T tv × W s × At? n 256 s) ⊎ R → W s × ((T tv × (endOf y ≡ 256)) ⊎ ((endOf y ≡ endOf x) × Agrees us vs))
+                to : (T tv × W s × At? n 256 s) ⊎ R → W s × ((T tv × (endOf y ≡ 256)) ⊎ ((endOf y ≡ endOf x) × AllAgree us vs))
                 to (inl h) = (h .1, inl (h .0, p .0 (h .2)))
                 to (inr h) = let i = walkA-in us (k * 8) (λ u. W u × At? n (endOf x) u) s h in
                     let d = find-den link label mem (Stored st) r n P (endOf x) a (w .2) (i .1 .0) in
                     let z = m .0 (i .1) in (i .0, inr (z, ih d z .0 h .1))
 
-                fro : W s × ((T tv × (endOf y ≡ 256)) ⊎ ((endOf y ≡ endOf x) × Agrees us vs)) → (T tv × W s × At? n 256 s) ⊎ R
+                fro : W s × ((T tv × (endOf y ≡ 256)) ⊎ ((endOf y ≡ endOf x) × AllAgree us vs)) → (T tv × W s × At? n 256 s) ⊎ R
                 fro h = ⊎-elim (λ z. inl (z .0, h .0, p .1 (z .1))) (λ z. let b = m .1 (z .0) in
                     inr (ih (find-den link label mem (Stored st) r n P (endOf x) a (w .2) (b .0)) (z .0) .1 ((h .0, b), z .1))) (h .1)
 
         walkA-means : (us : Args) (n : ℕ) (P : Place) (e k i m : ℕ) (W : ℕ → Type 0) (y : ℕ) (all vs : Args) → Den label k P e → endOf y ≡ e → subAt P t ≡ some (node y all) → Wfs ar us → Wfs ar vs
-            → m ≡ k * 8 + i → i + countArgs us ≤ 8 → ((j : ℕ) → nth (i + j) all ≡ nth j vs) → countArgs us ≡ countArgs vs → walkA us m W s ↔ (W s × Agrees us vs)
+            → m ≡ k * 8 + i → i + countArgs us ≤ 8 → ((j : ℕ) → nth (i + j) all ≡ nth j vs) → countArgs us ≡ countArgs vs → walkA us m W s ↔ (W s × AllAgree us vs)
         walkA-means nil n P e k i m W y all vs d z u w wv q l f c = ((λ h. (h, tt)), (λ h. h .0))
         walkA-means (cons p us) n P e k i m W y all nil d z u w wv q l f c = absurd (omega arith)
         walkA-means (cons p us) n P e k i m W y all (cons v vs) d z u w wv q l f c =

@@ -14,7 +14,7 @@ use Rattle.laws.specs.Choice.{pick}
 use Rattle.chains.specs.Chains.{Chains, relinked}
 use Rattle.keys.specs.Keys.{Place, root, step, Key, key}
 use Rattle.paths.specs.Rep.{lab, At, Den, Rep, Full, Minus, den-fun, clear-rep, free-rep, den-stay}
-use Rattle.paths.specs.Insert.{DenK, RK, Dens, rep-iff, St, Good, relinked-length}
+use Rattle.paths.specs.Insert.{DenK, RK, Dens, rep-iff, St, GoodTables, relinked-length}
 use Rattle.laws.specs.Sizes.{keyLimit, slotCount}
 
 -- the place of each key is the root or leads from a key after it
@@ -60,12 +60,12 @@ module _ (S : Type 0) (unmark : S → ℕ → ℕ → S) (emptyb : S → ℕ →
 module _ (S : Type 0) (mem : S → ℕ → ℕ → Type 0) (mark unmark : S → ℕ → ℕ → S) (emptyb : S → ℕ → Bool) (Ok : S → Type 0) where
   module _ (unmark-ok : (σ : S) (k s : ℕ) → Ok σ → k < keyLimit → s < slotCount → Ok (unmark σ k s)) (unmark-law : (σ : S) (k s : ℕ) → Ok σ → k < keyLimit → s < slotCount → (j t : ℕ) → mem (unmark σ k s) j t ↔ (mem σ j t × ((j ≡ k) × (t ≡ s) → ⊥)))
       (empty-yes : (σ : S) (k t : ℕ) → Ok σ → k < keyLimit → emptyb σ k ≡ true → mem σ k t → ⊥) (empty-no : (σ : S) (k : ℕ) → Ok σ → k < keyLimit → emptyb σ k ≡ false → (t : ℕ) × mem σ k t) where
-    record Fewer (σ τ : St S) (R : ℕ → Place → ℕ → Type 0) (k : ℕ) : Type 0 where
-      pub good : Good S mem mark Ok τ R
+    record FewerKeys (σ τ : St S) (R : ℕ → Place → ℕ → Type 0) (k : ℕ) : Type 0 where
+      pub good : GoodTables S mem mark Ok τ R
       pub keep : (j : ℕ) (K : Key) → (j ≡ k → ⊥) → DenK (σ .label) j K → DenK (τ .label) j K
 
-    fewer : (σ : St S) (R : ℕ → Place → ℕ → Type 0) (s k : ℕ) (P : Place) (e : ℕ) → Good S mem mark Ok σ R → s < slotCount → Den (σ .label) k P e
-        → ((Q : Place) (i f : ℕ) → Q ≡ step P e i → R s Q f → ⊥) → Fewer σ (left S unmark emptyb σ k s) (Minus R s P e) k
+    fewer : (σ : St S) (R : ℕ → Place → ℕ → Type 0) (s k : ℕ) (P : Place) (e : ℕ) → GoodTables S mem mark Ok σ R → s < slotCount → Den (σ .label) k P e
+        → ((Q : Place) (i f : ℕ) → Q ≡ step P e i → R s Q f → ⊥) → FewerKeys σ (left S unmark emptyb σ k s) (Minus R s P e) k
     unfolding left cleared freed Full
     fewer σ R s k P e g l d below = go (emptyb sets k) refl
       where
@@ -84,7 +84,7 @@ module _ (S : Type 0) (mem : S → ℕ → ℕ → Type 0) (mark unmark : S → 
         full′ : Full (σ .label) (mem sets) k
         full′ j q z o = let w = g .full j q z (λ y. omega arith) in (w .0, law j (w .0) .1 (w .1, (λ y. o (y .0))))
 
-        go : (b : Bool) → emptyb sets k ≡ b → Fewer σ (freed S unmark emptyb b (cleared S unmark emptyb σ k s) k) (Minus R s P e) k
+        go : (b : Bool) → emptyb sets k ≡ b → FewerKeys σ (freed S unmark emptyb b (cleared S unmark emptyb σ k s) k) (Minus R s P e) k
         go true q = record {
           good = record {
             rep = free-rep (σ .link) (σ .label) (mem sets) (Minus R s P e) rep′ k P e d (λ t m. empty-yes sets k t ok′ (d .low) q m) full′ (g .links) (g .labels);
@@ -118,8 +118,8 @@ module _ (S : Type 0) (mem : S → ℕ → ℕ → Type 0) (mark unmark : S → 
     dens-keep σ τ k P e d f (j ∷ ks) (key Q x ∷ Ks) o h =
         (f j (key Q x) (λ y. let c = den-fun (σ .label) k P Q e x d (rw y at (h .0)) in let a : P ≡ Q = c .0 in let b : e ≡ x = c .1 in o (inl (cc))) (h .0), dens-keep σ τ k P e d f ks Ks (λ i. o (inr i)) (h .1))
 
-    pub del-good : (ks : List ℕ) (Ks : List Key) (σ : St S) (R : ℕ → Place → ℕ → Type 0) (s : ℕ) → Good S mem mark Ok σ R → s < slotCount → Dens (σ .label) ks Ks → NoDup Ks → Grown Ks
-        → ((Q : Place) (f : ℕ) → R s Q f → In (key Q f) Ks) → Good S mem mark Ok (delRun S unmark emptyb σ s ks) (Without R s)
+    pub del-good : (ks : List ℕ) (Ks : List Key) (σ : St S) (R : ℕ → Place → ℕ → Type 0) (s : ℕ) → GoodTables S mem mark Ok σ R → s < slotCount → Dens (σ .label) ks Ks → NoDup Ks → Grown Ks
+        → ((Q : Place) (f : ℕ) → R s Q f → In (key Q f) Ks) → GoodTables S mem mark Ok (delRun S unmark emptyb σ s ks) (Without R s)
     unfolding delRun
     del-good [] [] σ R s g l d n w i = record { rep = rep-iff _ _ _ R (Without R s) (λ t Q f. ((λ h. (h, (λ z. i Q f (rw z at h)))), (λ h. h .0))) (g .rep); full = g .full; links = g .links; labels = g .labels; ok = g .ok }
     del-good [] (_ ∷ Ks) σ R s g l d n w i = absurd d

@@ -15,7 +15,8 @@ use Rattle.laws.specs.Members.{In, NoDup, in-append, in-left, in-right}
 use Rattle.laws.specs.Choice.{pick}
 use Rattle.chains.specs.Chains.{Chains, find, relinked, taken, pushed, find-sound, find-complete, taken-chains}
 use Rattle.keys.specs.Keys.{Place, root, step, Key, key}
-use Rattle.paths.specs.Rep.{lab, At, top, kid, Den, Rep, Full, Unique, Plus, Above, den-fun, den-inj, find-den, den-find, find-none, add-rep, add-den, set-rep, den-keep, carry}
+use Rattle.paths.specs.Rep.{lab, At, top, kid, Den, Rep, Full, Unique, Plus, Above, den-fun, den-inj, find-den}
+use Rattle.paths.specs.Rep.{den-find, find-none, add-rep, add-den, set-rep, den-keep, carry}
 use Rattle.paths.specs.Free.{frees, free-found, free-less}
 use Rattle.paths.specs.TreeWalk.{kidOf, upPlace, upNum, keyList}
 use Rattle.laws.specs.Sizes.{keyLimit, linkLength, slotCount}
@@ -150,7 +151,7 @@ module _ (S : Type 0) (mark : S → ℕ → ℕ → S) where
       (ks ++ keyFor σ (lab (upNum ks u) e) ∷ []) us es
 
 module _ (S : Type 0) (mem : S → ℕ → ℕ → Type 0) (mark : S → ℕ → ℕ → S) (Ok : S → Type 0) where
-  pub record Good (σ : St S) (R : ℕ → Place → ℕ → Type 0) : Type 0 where
+  pub record GoodTables (σ : St S) (R : ℕ → Place → ℕ → Type 0) : Type 0 where
     pub rep : Rep (σ .link) (σ .label) (mem (σ .sets)) R
     pub full : Full (σ .label) (mem (σ .sets)) keyLimit
     pub links : linkLength ≤ length (σ .link)
@@ -158,9 +159,9 @@ module _ (S : Type 0) (mem : S → ℕ → ℕ → Type 0) (mark : S → ℕ →
     pub ok : Ok (σ .sets)
 
   -- one item
-  pub record Stepped (σ τ : St S) (R : ℕ → Place → ℕ → Type 0) (s k : ℕ) (P : Place) (e : ℕ) (Ks : List Key) (m : ℕ)
-      : Type 0 where
-    pub good : Good τ (Plus R s P e)
+  pub record InsertStepped (σ τ : St S) (R : ℕ → Place → ℕ → Type 0) (s k : ℕ) (P : Place) (e : ℕ) (Ks : List Key)
+      (m : ℕ) : Type 0 where
+    pub good : GoodTables τ (Plus R s P e)
     pub den : Den (τ .label) k P e
     pub keep : (j : ℕ) (K : Key) → DenK (σ .label) j K → DenK (τ .label) j K
     pub lack : Lack (τ .label) Ks m
@@ -169,7 +170,7 @@ module _ (S : Type 0) (mem : S → ℕ → ℕ → Type 0) (mark : S → ℕ →
   module _ (mark-ok : (σ : S) (k s : ℕ) → Ok σ → k < keyLimit → s < slotCount → Ok (mark σ k s)) (mark-law : (σ : S) (k s : ℕ) → Ok σ → k < keyLimit → s < slotCount → (j t : ℕ) → mem (mark σ k s) j t ↔ (mem σ j t ⊎ ((j ≡ k) × (t ≡ s)))) where
     -- the bit of a key that is there
     mark-good : (σ : St S) (R : ℕ → Place → ℕ → Type 0) (k s : ℕ) (P : Place) (e : ℕ) → Rep (σ .link) (σ .label) (mem (σ .sets)) R → Full (σ .label) (mem (σ .sets)) k → linkLength ≤ length (σ .link) → keyLimit ≤ length (σ .label)
-        → Ok (σ .sets) → Den (σ .label) k P e → Above R s P → s < slotCount → Good (marked S mark σ k s) (Plus R s P e)
+        → Ok (σ .sets) → Den (σ .label) k P e → Above R s P → s < slotCount → GoodTables (marked S mark σ k s) (Plus R s P e)
     unfolding marked Full
     mark-good σ R k s P e r f a b oks d up l = record {
       rep = set-rep (σ .link) (σ .label) (mem (σ .sets)) (mem (mark (σ .sets) k s)) R r k s P e d up (mark-law (σ .sets) k s oks (d .low) l);
@@ -187,8 +188,8 @@ module _ (S : Type 0) (mem : S → ℕ → ℕ → Type 0) (mark : S → ℕ →
     unfolding Full
     full-any label mm k f j l z o = f j l z (λ y. omega arith)
 
-    step-has : (σ : St S) (R : ℕ → Place → ℕ → Type 0) (s n : ℕ) (P : Place) (e : ℕ) (Ks : List Key) (m k : ℕ) → Good σ R → At (σ .label) n P → e < 257 → Above R s P → s < slotCount
-        → Den (σ .label) k P e → Lack (σ .label) Ks m → m ≤ frees (σ .label) → Stepped σ (entered S mark σ s (lab n e)) R s (keyFor S mark σ (lab n e)) P e Ks m
+    step-has : (σ : St S) (R : ℕ → Place → ℕ → Type 0) (s n : ℕ) (P : Place) (e : ℕ) (Ks : List Key) (m k : ℕ) → GoodTables σ R → At (σ .label) n P → e < 257 → Above R s P → s < slotCount
+        → Den (σ .label) k P e → Lack (σ .label) Ks m → m ≤ frees (σ .label) → InsertStepped σ (entered S mark σ s (lab n e)) R s (keyFor S mark σ (lab n e)) P e Ks m
     unfolding entered ensured keyFor marked
     step-has σ R s n P e Ks m k g a f up l d la en =
         let q = den-find (σ .link) (σ .label) (mem (σ .sets)) R (g .rep) n P e a f k d in
@@ -201,8 +202,8 @@ module _ (S : Type 0) (mem : S → ℕ → ℕ → Type 0) (mark : S → ℕ →
           enough = en;
         })
 
-    step-new : (σ : St S) (R : ℕ → Place → ℕ → Type 0) (s n : ℕ) (P : Place) (e : ℕ) (Ks : List Key) (m : ℕ) → Good σ R → At (σ .label) n P → e < 257 → Above R s P → s < slotCount
-        → ((k : ℕ) → Den (σ .label) k P e → ⊥) → (In (key P e) Ks → ⊥) → Lack (σ .label) Ks m → suc m ≤ frees (σ .label) → Stepped σ (entered S mark σ s (lab n e)) R s (keyFor S mark σ (lab n e)) P e Ks m
+    step-new : (σ : St S) (R : ℕ → Place → ℕ → Type 0) (s n : ℕ) (P : Place) (e : ℕ) (Ks : List Key) (m : ℕ) → GoodTables σ R → At (σ .label) n P → e < 257 → Above R s P → s < slotCount
+        → ((k : ℕ) → Den (σ .label) k P e → ⊥) → (In (key P e) Ks → ⊥) → Lack (σ .label) Ks m → suc m ≤ frees (σ .label) → InsertStepped σ (entered S mark σ s (lab n e)) R s (keyFor S mark σ (lab n e)) P e Ks m
     unfolding entered ensured keyFor marked Full
     step-new σ R s n P e Ks m g a f up l d o la en = rw (z, mod-eq-of-lt low) (record {
       good = mark-good τ R k s P e rep′ full′ (omega (arith, len, g .links)) (omega (arith, length-set (σ .label) k (lab n e), g .labels)) (g .ok) den′ up l;
@@ -271,8 +272,8 @@ module _ (S : Type 0) (mem : S → ℕ → ℕ → Type 0) (mark : S → ℕ →
         full′ : Full label′ (mem (σ .sets)) k
         full′ j q y w = g .full j q (λ x. y (other j w ∙ x)) (λ x. omega arith)
 
-    stepped : (σ : St S) (R : ℕ → Place → ℕ → Type 0) (s n : ℕ) (P : Place) (e : ℕ) (Ks : List Key) (m : ℕ) → Good σ R → At (σ .label) n P → e < 257 → Above R s P → s < slotCount
-        → (In (key P e) Ks → ⊥) → Lack (σ .label) (key P e ∷ Ks) m → m ≤ frees (σ .label) → (m′ : ℕ) × Stepped σ (entered S mark σ s (lab n e)) R s (keyFor S mark σ (lab n e)) P e Ks m′
+    stepped : (σ : St S) (R : ℕ → Place → ℕ → Type 0) (s n : ℕ) (P : Place) (e : ℕ) (Ks : List Key) (m : ℕ) → GoodTables σ R → At (σ .label) n P → e < 257 → Above R s P → s < slotCount
+        → (In (key P e) Ks → ⊥) → Lack (σ .label) (key P e ∷ Ks) m → m ≤ frees (σ .label) → (m′ : ℕ) × InsertStepped σ (entered S mark σ s (lab n e)) R s (keyFor S mark σ (lab n e)) P e Ks m′
     stepped σ R s n P e Ks m g a f up l o (has k d la) en = (m, step-has σ R s n P e Ks m k g a f up l d la en)
     stepped σ R s n P e Ks m g a f up l o (new {m = m′} d la) en = (m′, step-new σ R s n P e Ks m′ g a f up l d o la en)
 
@@ -300,9 +301,9 @@ module _ (S : Type 0) (mem : S → ℕ → ℕ → Type 0) (mark : S → ℕ →
         last (inr z) = absurd z
 
     -- the whole term
-    pub ins-good : (us es : List ℕ) (σ : St S) (R : ℕ → Place → ℕ → Type 0) (s : ℕ) (ks : List ℕ) (Ks : List Key) (m : ℕ) → Good σ R → s < slotCount → Dens (σ .label) ks Ks
+    pub ins-good : (us es : List ℕ) (σ : St S) (R : ℕ → Place → ℕ → Type 0) (s : ℕ) (ks : List ℕ) (Ks : List Key) (m : ℕ) → GoodTables σ R → s < slotCount → Dens (σ .label) ks Ks
         → ((K : Key) → In K Ks → RK R s K) → Back (length Ks) us → EndLabels es → NoDup (keyList Ks us es) → Lack (σ .label) (keyList Ks us es) m → m ≤ frees (σ .label)
-        → Good (insRun S mark σ s ks us es) (With R s (keyList Ks us es))
+        → GoodTables (insRun S mark σ s ks us es) (With R s (keyList Ks us es))
     unfolding insRun keyList
     ins-good [] es σ R s ks Ks m g l d i b f nd la en = record { rep = rep-iff _ _ _ R _ (λ t Q h. (inl, (λ w. ⊎-elim (λ x. x) (λ x. absurd (x .1)) w))) (g .rep); full = g .full; links = g .links; labels = g .labels; ok = g .ok }
     ins-good (u ∷ us) [] σ R s ks Ks m g l d i b f nd la en = record { rep = rep-iff _ _ _ R _ (λ t Q h. (inl, (λ w. ⊎-elim (λ x. x) (λ x. absurd (x .1)) w))) (g .rep); full = g .full; links = g .links; labels = g .labels; ok = g .ok }

@@ -11,7 +11,7 @@ use Rattle.laws.specs.Members.{In, NoDup}
 use Rattle.chains.specs.Chains.{Chains, Chain, Linked, end, one, home}
 use Rattle.keys.specs.Keys.{Tm}
 use Rattle.paths.specs.Rep.{Den, Rep, Full, Unique}
-use Rattle.paths.specs.Insert.{St, Good}
+use Rattle.paths.specs.Insert.{St, GoodTables}
 use Rattle.paths.specs.StoredTrees.{Stored}
 use Rattle.laws.specs.Sizes.{freeHead, keyLimit, lastKey, linkLength}
 
@@ -77,7 +77,7 @@ open-chains link label f b lo hi = go (ℕ-discrete b freeHead)
 
 module _ (S : Type 0) (mem : S → ℕ → ℕ → Type 0) (mark : S → ℕ → ℕ → S) (Ok : S → Type 0) where
   pub open-good : (σ : St S) → Fresh (σ .link) (σ .label) → linkLength ≤ length (σ .link) → keyLimit ≤ length (σ .label) → Ok (σ .sets) → ((k s : ℕ) → mem (σ .sets) k s → ⊥)
-      → Good S mem mark Ok σ (Stored (λ s. none))
+      → GoodTables S mem mark Ok σ (Stored (λ s. none))
   unfolding Unique Full
   open-good σ f a b o e = record {
     rep = record {

@@ -10,11 +10,12 @@ use Rattle.terms.specs.Terms.{numbers, Signed, refusal}
 use Rattle.terms.specs.Terms.{arity}
 use Rattle.definitions.specs.Trees.{countArgs, itemsT, itemsA, IsSymbol, Variable, treeOf}
 use Rattle.definitions.specs.Trees as Trees
-use Rattle.definitions.specs.Spelt.{end-variable, end-symbol, shaped-count, term-tree, term-tree-is, tree-shaped, tree-spells, size-items}
+use Rattle.definitions.specs.Spelt.{end-variable, end-symbol, shaped-count, term-tree, term-tree-is, tree-shaped}
+use Rattle.definitions.specs.Spelt.{tree-spells, size-items}
 use Rattle.paths.specs.TreeWalk.{upsT, endsT, endsA, Eight, Eights}
 use Rattle.paths.specs.Insert.{EndLabels}
-use Rattle.paths.specs.StoredTrees.{Fine}
-use Rattle.paths.specs.Ups.{upsF, Shaped, Shapes, ups-term}
+use Rattle.paths.specs.StoredTrees.{Storable}
+use Rattle.paths.specs.Ups.{upsF, ArgumentsCounted, AllArgumentsCounted, ups-term}
 use Rattle.paths.specs.Cand.{Wf, Wfs}
 
 map-append : (f : ℕ → ℕ) (l m : List ℕ) → map f (l ++ m) ≡ map f l ++ map f m
@@ -38,12 +39,12 @@ mutual
 
 module _ (sig : List ℕ) (s : Signed sig) where
   mutual
-    unfolding Shaped Trees.Shaped
+    unfolding ArgumentsCounted Trees.Shaped
 
-    pub shaped : (u : Tm) → Trees.Shaped sig u → Shaped (arity sig) u
+    pub shaped : (u : Tm) → Trees.Shaped sig u → ArgumentsCounted (arity sig) u
     shaped (node x us) w = (shaped-count sig (s .short) x us w, shapes us (w .1))
 
-    shapes : (us : Args) → Trees.Shapes sig us → Shapes (arity sig) us
+    shapes : (us : Args) → Trees.Shapes sig us → AllArgumentsCounted (arity sig) us
     shapes nil w = tt
     shapes (cons u us) w = (shaped u (w .0), shapes us (w .1))
 
@@ -87,14 +88,14 @@ module _ (sig : List ℕ) (s : Signed sig) where
     endss nil w = tt
     endss (cons u us) w = ends-append (endsT u) (endsA us) (ends u (w .0)) (endss us (w .1))
 
-  pub fine : (u : Tm) → Trees.Shaped sig u → Fine u
+  pub fine : (u : Tm) → Trees.Shaped sig u → Storable u
   fine u w = record { eight = eight u w; ends = ends u w }
 
 -- a checked term's tree, as the key table needs it
 pub record Spelt (sig t : List ℕ) : Type 0 where
-  pub shaped : Shaped (arity sig) (treeOf sig t)
+  pub shaped : ArgumentsCounted (arity sig) (treeOf sig t)
   pub wf : Wf (arity sig) (treeOf sig t)
-  pub fine : Fine (treeOf sig t)
+  pub fine : Storable (treeOf sig t)
   pub items : itemsT (treeOf sig t) ≡ numbers t
   pub short : size (treeOf sig t) ≤ 32
   pub ups : upsF (arity sig) 0 (0 ∷ []) (numbers t) ≡ upsT 0 0 (treeOf sig t)

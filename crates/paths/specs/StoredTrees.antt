@@ -13,11 +13,14 @@ use lib.Dec.{eqb, ltb}
 use lib.ListN.{length, getD, length-append}
 use Rattle.laws.specs.Members.{In, NoDup, in-append}
 use Rattle.laws.specs.Choice.{pick}
-use Rattle.keys.specs.Keys.{Place, root, step, Key, key, Tm, Args, node, nil, cons, endOf, size, sizes, keysT, keysA, HasKey, in-has, has-in, has-parent, keys-nodup}
+use Rattle.keys.specs.Keys.{Place, root, step, Key, key, Tm, Args, node, nil, cons, endOf, size, sizes, keysT, keysA}
+use Rattle.keys.specs.Keys.{HasKey, in-has, has-in, has-parent, keys-nodup}
 use Rattle.paths.specs.Rep.{Den, Rep}
 use Rattle.paths.specs.Free.{frees}
-use Rattle.paths.specs.TreeWalk.{kidOf, upPlace, upNum, keyList, upsT, upsA, endsT, endsA, Eight, Eights, keyList-keys}
-use Rattle.paths.specs.Insert.{DenK, RK, Dens, Lack, Back, EndLabels, With, rep-iff, St, Good, insRun, ins-good}
+use Rattle.paths.specs.TreeWalk.{kidOf, upPlace, upNum, keyList, upsT, upsA, endsT, endsA, Eight, Eights}
+use Rattle.paths.specs.TreeWalk.{keyList-keys}
+use Rattle.paths.specs.Insert.{DenK, RK, Dens, Lack, Back, EndLabels, With, rep-iff, St, GoodTables, insRun}
+use Rattle.paths.specs.Insert.{ins-good}
 use Rattle.paths.specs.Delete.{From, Grown, Without, delRun, del-good}
 use Rattle.paths.specs.Locate.{numList, missing, DensM, located, lack-of, all-there}
 use Rattle.laws.specs.Sizes.{keyLimit, slotCount}
@@ -107,23 +110,23 @@ KeyIn (some t) P e = HasKey t (key P e)
 abbrev pub Stored : (ℕ → Option Tm) → ℕ → Place → ℕ → Type 0
 Stored st s P e = KeyIn (st s) P e
 
-unfoldable pub put : (ℕ → Option Tm) → ℕ → Option Tm → ℕ → Option Tm
-put st s o t = pick (eqb t s) o (st t)
+unfoldable pub putTree : (ℕ → Option Tm) → ℕ → Option Tm → ℕ → Option Tm
+putTree st s o t = pick (eqb t s) o (st t)
 
-put-same : (st : ℕ → Option Tm) (s : ℕ) (o : Option Tm) (t : ℕ) → t ≡ s → put st s o t ≡ o
-unfolding put
+put-same : (st : ℕ → Option Tm) (s : ℕ) (o : Option Tm) (t : ℕ) → t ≡ s → putTree st s o t ≡ o
+unfolding putTree
 put-same st s o t h = rw (eq-eqb t s h)
 
-put-other : (st : ℕ → Option Tm) (s : ℕ) (o : Option Tm) (t : ℕ) → (t ≡ s → ⊥) → put st s o t ≡ st t
-unfolding put
+put-other : (st : ℕ → Option Tm) (s : ℕ) (o : Option Tm) (t : ℕ) → (t ≡ s → ⊥) → putTree st s o t ≡ st t
+unfolding putTree
 put-other st s o t h = rw (ne-eqb t s h)
 
 -- a term that may be stored
-pub record Fine (t : Tm) : Type 0 where
+pub record Storable (t : Tm) : Type 0 where
   pub eight : Eight t
   pub ends : EndLabels (endsT t)
 
-module _ (t : Tm) (f : Fine t) where
+module _ (t : Tm) (f : Storable t) where
   pub fine-back : Back 0 (upsT 0 0 t)
   fine-back = rw append-nil at (back-tree t 0 0 [] (f .eight) tt tt)
 
@@ -142,27 +145,27 @@ module _ (S : Type 0) (mem : S → ℕ → ℕ → Type 0) (mark unmark : S → 
     (unmark-law : (σ : S) (k s : ℕ) → Ok σ → k < keyLimit → s < slotCount → (j t : ℕ) → mem (unmark σ k s) j t ↔ (mem σ j t × ((j ≡ k) × (t ≡ s) → ⊥)))
     (empty-yes : (σ : S) (k t : ℕ) → Ok σ → k < keyLimit → emptyb σ k ≡ true → mem σ k t → ⊥) (empty-no : (σ : S) (k : ℕ) → Ok σ → k < keyLimit → emptyb σ k ≡ false → (t : ℕ) × mem σ k t) where
   -- insert into a free slot, with keys enough
-  pub insert-good : (σ : St S) (st : ℕ → Option Tm) (s : ℕ) (t : Tm) → Good S mem mark Ok σ (Stored st) → s < slotCount → st s ≡ none → Fine t
+  pub insert-good : (σ : St S) (st : ℕ → Option Tm) (s : ℕ) (t : Tm) → GoodTables S mem mark Ok σ (Stored st) → s < slotCount → st s ≡ none → Storable t
       → missing (numList (σ .link) (σ .label) [] (upsT 0 0 t) (endsT t)) ≤ frees (σ .label)
-      → Good S mem mark Ok (insRun S mark σ s [] (upsT 0 0 t) (endsT t)) (Stored (put st s (some t)))
+      → GoodTables S mem mark Ok (insRun S mark σ s [] (upsT 0 0 t) (endsT t)) (Stored (putTree st s (some t)))
   insert-good σ st s t g l e f en =
       let d = located (σ .link) (σ .label) (mem (σ .sets)) (Stored st) (g .rep) (upsT 0 0 t) (endsT t) [] [] tt (fine-back t f) (f .ends) in
       let h = ins-good S mem mark Ok mark-ok mark-law (upsT 0 0 t) (endsT t) σ (Stored st) s [] [] _ g l tt (λ K i. absurd i) (fine-back t f) (f .ends) (fine-nodup t f) (lack-of (σ .label) (numList (σ .link) (σ .label) [] (upsT 0 0 t) (endsT t)) (keyList [] (upsT 0 0 t) (endsT t)) d) en in
-      record { rep = rep-iff _ _ _ _ (Stored (put st s (some t))) (λ u P x. (to u P x (ℕ-discrete u s), fro u P x (ℕ-discrete u s))) (h .rep); full = h .full; links = h .links; labels = h .labels; ok = h .ok }
+      record { rep = rep-iff _ _ _ _ (Stored (putTree st s (some t))) (λ u P x. (to u P x (ℕ-discrete u s), fro u P x (ℕ-discrete u s))) (h .rep); full = h .full; links = h .links; labels = h .labels; ok = h .ok }
     where
-      to : (u : ℕ) (P : Place) (x : ℕ) → Dec (u ≡ s) → With (Stored st) s (keyList [] (upsT 0 0 t) (endsT t)) u P x → KeyIn (put st s (some t) u) P x
+      to : (u : ℕ) (P : Place) (x : ℕ) → Dec (u ≡ s) → With (Stored st) s (keyList [] (upsT 0 0 t) (endsT t)) u P x → KeyIn (putTree st s (some t) u) P x
       to u P x (yes q) (inl r) = let z : st u ≡ none = ap st q ∙ e in absurd (subst (λ (o : Option Tm). KeyIn o P x) z r)
       to u P x (yes q) (inr r) = subst (λ (o : Option Tm). KeyIn o P x) (sym (put-same st s (some t) u q)) (fine-in t f (key P x) .1 (r .1))
       to u P x (no q) (inl r) = subst (λ (o : Option Tm). KeyIn o P x) (sym (put-other st s (some t) u q)) r
       to u P x (no q) (inr r) = absurd (q (r .0))
 
-      fro : (u : ℕ) (P : Place) (x : ℕ) → Dec (u ≡ s) → KeyIn (put st s (some t) u) P x → With (Stored st) s (keyList [] (upsT 0 0 t) (endsT t)) u P x
+      fro : (u : ℕ) (P : Place) (x : ℕ) → Dec (u ≡ s) → KeyIn (putTree st s (some t) u) P x → With (Stored st) s (keyList [] (upsT 0 0 t) (endsT t)) u P x
       fro u P x (yes q) r = inr (q, fine-in t f (key P x) .0 (subst (λ (o : Option Tm). KeyIn o P x) (put-same st s (some t) u q) r))
       fro u P x (no q) r = inl (subst (λ (o : Option Tm). KeyIn o P x) (put-other st s (some t) u q) r)
 
   -- delete of a slot in use
-  pub delete-good : (σ : St S) (st : ℕ → Option Tm) (s : ℕ) (t : Tm) → Good S mem mark Ok σ (Stored st) → s < slotCount → st s ≡ some t → Fine t
-      → Good S mem mark Ok (delRun S unmark emptyb σ s (back (numList (σ .link) (σ .label) [] (upsT 0 0 t) (endsT t)) [])) (Stored (put st s none))
+  pub delete-good : (σ : St S) (st : ℕ → Option Tm) (s : ℕ) (t : Tm) → GoodTables S mem mark Ok σ (Stored st) → s < slotCount → st s ≡ some t → Storable t
+      → GoodTables S mem mark Ok (delRun S unmark emptyb σ s (back (numList (σ .link) (σ .label) [] (upsT 0 0 t) (endsT t)) [])) (Stored (putTree st s none))
   delete-good σ st s t g l e f =
       let L = keyList [] (upsT 0 0 t) (endsT t) in
       let d = located (σ .link) (σ .label) (mem (σ .sets)) (Stored st) (g .rep) (upsT 0 0 t) (endsT t) [] [] tt (fine-back t f) (f .ends) in
@@ -171,14 +174,14 @@ module _ (S : Type 0) (mem : S → ℕ → ℕ → Type 0) (mark unmark : S → 
       let h = del-good S mem mark unmark emptyb Ok unmark-ok unmark-law empty-yes empty-no (back (numList (σ .link) (σ .label) [] (upsT 0 0 t) (endsT t)) []) (back L []) σ (Stored st) s g l
       (dens-back (σ .label) N [] L [] a tt) (nodup-back L [] (fine-nodup t f) tt (λ K i j. j)) (grown-back (upsT 0 0 t) (endsT t) [] [] tt (λ n q. absurd (omega arith)) (fine-back t f))
       (λ Q x r. back-in (key Q x) L [] (inl (fine-in t f (key Q x) .0 (subst (λ (o : Option Tm). KeyIn o Q x) e r)))) in
-      record { rep = rep-iff _ _ _ _ (Stored (put st s none)) (λ u P x. (to u P x, fro u P x (ℕ-discrete u s))) (h .rep); full = h .full; links = h .links; labels = h .labels; ok = h .ok }
+      record { rep = rep-iff _ _ _ _ (Stored (putTree st s none)) (λ u P x. (to u P x, fro u P x (ℕ-discrete u s))) (h .rep); full = h .full; links = h .links; labels = h .labels; ok = h .ok }
     where
       there : (K : Key) → HasKey t K → (k : ℕ) × DenK (σ .label) k K
       there (key P x) h = g .rep .there s P x (subst (λ (o : Option Tm). KeyIn o P x) (sym e) h)
 
-      to : (u : ℕ) (P : Place) (x : ℕ) → Without (Stored st) s u P x → KeyIn (put st s none u) P x
+      to : (u : ℕ) (P : Place) (x : ℕ) → Without (Stored st) s u P x → KeyIn (putTree st s none u) P x
       to u P x r = subst (λ (o : Option Tm). KeyIn o P x) (sym (put-other st s none u (r .1))) (r .0)
 
-      fro : (u : ℕ) (P : Place) (x : ℕ) → Dec (u ≡ s) → KeyIn (put st s none u) P x → Without (Stored st) s u P x
+      fro : (u : ℕ) (P : Place) (x : ℕ) → Dec (u ≡ s) → KeyIn (putTree st s none u) P x → Without (Stored st) s u P x
       fro u P x (yes q) r = absurd (subst (λ (o : Option Tm). KeyIn o P x) (put-same st s none u q) r)
       fro u P x (no q) r = (subst (λ (o : Option Tm). KeyIn o P x) (put-other st s none u q) r, q)

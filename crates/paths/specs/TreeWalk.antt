@@ -13,8 +13,11 @@ use lib.Seq.{getD-set-same, getD-set-other, getD-append-seam}
 use Rattle.laws.specs.Members.{In, NoDup, in-append, in-left, in-right}
 use Rattle.laws.specs.Choice.{pick}
 use Rattle.chains.specs.Chains.{Chains, find, relinked, find-sound, find-complete}
-use Rattle.keys.specs.Keys.{Place, root, step, Key, key, Tm, Args, node, nil, cons, endOf, size, sizes, keysT, keysA, keys-length}
-use Rattle.paths.specs.Rep.{lab, At, top, kid, Den, Rep, Full, Unique, Plus, Minus, Above, den-fun, den-inj, find-den, find-none, add-rep, add-den, set-rep, clear-rep, free-rep, den-keep, den-stay, carry}
+use Rattle.keys.specs.Keys.{Place, root, step, Key, key, Tm, Args, node, nil, cons, endOf, size, sizes, keysT, keysA}
+use Rattle.keys.specs.Keys.{keys-length}
+use Rattle.paths.specs.Rep.{lab, At, top, kid, Den, Rep, Full, Unique, Plus, Minus, Above, den-fun, den-inj}
+use Rattle.paths.specs.Rep.{find-den, find-none, add-rep, add-den, set-rep, clear-rep, free-rep, den-keep}
+use Rattle.paths.specs.Rep.{den-stay, carry}
 use Rattle.paths.specs.Free.{frees, free-found, free-less}
 use Rattle.laws.specs.Sizes.{rootPlace}
 

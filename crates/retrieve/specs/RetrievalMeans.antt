@@ -27,7 +27,7 @@ use Rattle.keysets.specs.KeySets.{four}
 use Rattle.termkeys.specs.Fill.{tables}
 use Rattle.termkeys.specs.TermKeysMean.{GoodSt}
 use Rattle.candidates.specs.CandidatesMean.{candidates-mean}
-use Rattle.candidates.specs.Has.{Same, walk-in}
+use Rattle.candidates.specs.Has.{SlotsOf, walk-in}
 use Rattle.layout.specs.Layout.{signatureOf, termOf, usedOf}
 use Rattle.layout.specs.Tables.{Tables}
 use Rattle.layout.proofs.LayoutLaws.{signature-good}
@@ -55,7 +55,7 @@ module _ (T : Tables) (st : ℕ → Option Tm) (h : Indexed T st) (r : ℕ) (q :
   in-use s l z = walk-in (T .link) (T .label) (four (T .s0) (T .s1) (T .s2) (T .s3)) (opens r) (stars r) (treeOf (signatureOf (T .bytes)) q) rootPlace (usedOf (T .used)) s l z
 
   -- the candidates: 'the slots in use', and the table of candidates
-  pub candidates-exact : Same (candidatesOf T r q) (λ s. (has (usedOf (T .used)) s ≡ 1) × (isCandidate (signatureOf (T .bytes)) r q (termOf (T .bytes) s) ≡ true))
+  pub candidates-exact : SlotsOf (candidatesOf T r q) (λ s. (has (usedOf (T .used)) s ≡ 1) × (isCandidate (signatureOf (T .bytes)) r q (termOf (T .bytes) s) ≡ true))
   candidates-exact s l = ((λ z. at-slot s l (in-use s l z) .0 z), (λ z. at-slot s l (z .0) .1 z))
 
   module _ (k : r ≤ 4) where

@@ -14,7 +14,8 @@ use lib.Bits.{bitAnd, bitOr}
 use lib.ListN.{length, getD, replicate, List·getD-eq-default}
 use lib.Pow.{pow-pos}
 use lib.Seq.{getD-set-same, getD-set-other, set-out}
-use Rattle.laws.specs.Digits.{bit, bit-and, bit-or, bit-xor, bit-pow-same, bit-pow-other, differ-self, differ-zero, bit-suc, bit-zero, some-bit}
+use Rattle.laws.specs.Digits.{bit, bit-and, bit-or, bit-xor, bit-pow-same, bit-pow-other, differ-self, differ-zero}
+use Rattle.laws.specs.Digits.{bit-suc, bit-zero, some-bit}
 use Rattle.laws.specs.Members.{In, NoDup}
 use Rattle.slots.specs.Slots.{has, inserted, removed, both, either, others, words8, noneIn, membersFrom, members}
 use Rattle.laws.specs.Sizes.{slotCount}

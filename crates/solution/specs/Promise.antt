@@ -9,12 +9,12 @@ use Rattle.theory.specs.Flat.{Item}
 use Rattle.theory.specs.Unify.{full}
 use Rattle.theory.specs.Relations.{Unifies}
 use Rattle.terms.specs.Terms.{arity}
-use Rattle.definitions.specs.Records.{Unifier, written, recordOf, countOf, Short, one-unifier, one-listing}
+use Rattle.definitions.specs.Records.{Unifier, writtenFields, recordOf, countOf, Short, one-unifier, one-listing}
 use Rattle.joining.specs.Run.{Given, term, Unified}
 use Rattle.solution.specs.Values.{value, value-full, Sizes}
 use Rattle.solution.specs.Filling.{front}
 use Rattle.solution.specs.RecordFields.{recordBytes}
-use Rattle.solution.specs.Totals.{record-full, totalFrom, value-short, total-record, countFrom, count-full}
+use Rattle.solution.specs.Totals.{record-full, totalFrom, value-short, total-record, boundCount, count-full}
 use Rattle.solution.specs.declared.Recorded.{Recorded}
 use Rattle.solution.specs.declared.Recorded.the-variants.{Written, Nothing, Long, Room}
 use Rattle.laws.specs.Sizes.{valueLimit}
@@ -69,7 +69,7 @@ module _ (sig pool : List ℕ) (root : ℕ) (tab : List ℕ) (G : Given sig pool
     pub promise-room : (out : List ℕ) → length out < totalFrom tab sz 64 0 → Promise sig (term sig pool 0) (term sig pool root) out out Room
     promise-room out b = (record { by = full (u .binds); unifier = unifier; short = all-short; room = omega (arith, total-record sig pool tab sz s short, ap length rec) }, refl)
 
-    pub promise-written : (out₀ out : List ℕ) (m n : ℕ) → totalFrom tab sz 64 0 ≤ length out₀ → m ≡ countFrom tab 64 0 → n ≡ length (recordBytes sig pool tab) → out ≡ front (recordBytes sig pool tab) out₀
+    pub promise-written : (out₀ out : List ℕ) (m n : ℕ) → totalFrom tab sz 64 0 ≤ length out₀ → m ≡ boundCount tab 64 0 → n ≡ length (recordBytes sig pool tab) → out ≡ front (recordBytes sig pool tab) out₀
         → Promise sig (term sig pool 0) (term sig pool root) out₀ out (Written m n)
     promise-written out₀ out m n b d e f = record {
       by = full (u .binds);
@@ -85,7 +85,7 @@ module _ (sig pool : List ℕ) (root : ℕ) (tab : List ℕ) (G : Given sig pool
 module _ (sig : List ℕ) (a b : List Item) (out₀ : List ℕ) where
   same-record : (θ η : ℕ → List Item) → Unifier sig a b θ → Unifier sig a b η → recordOf θ ≡ recordOf η
   unfolding recordOf
-  same-record θ η u v = ap written (one-listing sig a b θ η u v)
+  same-record θ η u v = ap writtenFields (one-listing sig a b θ η u v)
 
   same-count : (θ η : ℕ → List Item) → Unifier sig a b θ → Unifier sig a b η → countOf θ ≡ countOf η
   unfolding countOf

@@ -9,16 +9,17 @@ use native.Mathlib.Omega.{arith}
 use lib.ListN.{length, getD, length-append}
 use Rattle.theory.specs.Flat.{Item}
 use Rattle.theory.specs.Subst.{vars, app, Occurs, in-app}
-use Rattle.theory.specs.Unify.{one, one-same, one-other, Bind, _:=_, full, Good, Unbound, unbound, Has, not-both}
+use Rattle.theory.specs.Unify.{one, one-same, one-other, Bind, _:=_, full, GoodBindings, Unbound, unbound, Has}
+use Rattle.theory.specs.Unify.{not-both}
 use Rattle.theory.specs.Matcher.{items?}
-use Rattle.definitions.specs.Records.{unless, listedFrom, bytes, fieldBytes, written, recordOf, countOf}
+use Rattle.definitions.specs.Records.{unlessDecided, listedFrom, bytes, fieldBytes, writtenFields, recordOf, countOf}
 use Rattle.joining.specs.Run.{Given, Tab, term}
 use Rattle.solution.specs.Values.{value, value-full, Sizes}
 use Rattle.solution.specs.RecordFields.{field, fieldIf, part, fieldsFrom, recordBytes, length-part, part-none}
 use Rattle.laws.specs.Sizes.{valueLimit, variableBase}
 
 -- what stands in a value has no binding
-unbound-in : (B : List Bind) → Good B → (y z : ℕ) → Occurs z (full B y) → Unbound z B
+unbound-in : (B : List Bind) → GoodBindings B → (y z : ℕ) → Occurs z (full B y) → Unbound z B
 unbound-in [] g y z i = tt
 unbound-in ((x := u) ∷ B) g y z i = let r = in-app (one x (app (full B) u)) z (full B y) i in go (r .0) (r .1) (r .2) (ℕ-discrete x (r .0)) (unbound-in B (g .2))
   where
@@ -33,7 +34,7 @@ unbound-in ((x := u) ∷ B) g y z i = let r = in-app (one x (app (full B) u)) z 
     go w j k (no f) ih = let q = is w (rw (one-other x (app (full B) u) w f) at k) in ((λ p. f (p ∙ q)), ih y z (rw q j))
 
 -- a variable with a binding has a value that is not itself
-pub bound-other : (B : List Bind) → Good B → (y : ℕ) (u : List Item) → Has y u B → full B y ≡ vars y → ⊥
+pub bound-other : (B : List Bind) → GoodBindings B → (y : ℕ) (u : List Item) → Has y u B → full B y ≡ vars y → ⊥
 bound-other B g y u h e = not-both y u B (unbound-in B g y y (rw e (inl refl))) h
 
 -- the fields as the code writes them
@@ -45,7 +46,7 @@ field-bytes y l b =
     let k : (variableBase + y) % 256 ≡ y = omega arith in
     rw (e, h, k)
 
-module _ (sig pool tab : List ℕ) (G : Given sig pool) (B : List Bind) (g : Good B) (t : Tab sig pool tab B) (few : length B ≤ 64) where
+module _ (sig pool tab : List ℕ) (G : Given sig pool) (B : List Bind) (g : GoodBindings B) (t : Tab sig pool tab B) (few : length B ≤ 64) where
   -- an entry is 0 exactly where the value is the variable itself
   entry-own : (y : ℕ) → y < 64 → full B y ≡ vars y → getD tab y 0 ≡ 0
   entry-own y b e = go (getD tab y 0) refl
@@ -65,13 +66,13 @@ module _ (sig pool tab : List ℕ) (G : Given sig pool) (B : List Bind) (g : Goo
       go zero z = absurd (z refl)
       go (suc p) z = ap (λ l. field y (bytes l)) (value-full sig pool tab G B g t few y b) ∙ field-bytes y (full B y) b
 
-  from : (k y : ℕ) → y + k ≤ 64 → fieldsFrom sig pool tab k y ≡ written (listedFrom (full B) k y)
-  unfolding fieldsFrom listedFrom written
+  from : (k y : ℕ) → y + k ≤ 64 → fieldsFrom sig pool tab k y ≡ writtenFields (listedFrom (full B) k y)
+  unfolding fieldsFrom listedFrom writtenFields
   from zero y b = refl
   from (suc k) y b = go (items? (full B y) (vars y)) (from k (y + 1) (omega arith))
     where
-      go : (d : Dec (full B y ≡ vars y)) → fieldsFrom sig pool tab k (y + 1) ≡ written (listedFrom (full B) k (y + 1))
-          → part sig pool tab y ++ fieldsFrom sig pool tab k (y + 1) ≡ written (unless d (y := full B y) (listedFrom (full B) k (y + 1)))
+      go : (d : Dec (full B y ≡ vars y)) → fieldsFrom sig pool tab k (y + 1) ≡ writtenFields (listedFrom (full B) k (y + 1))
+          → part sig pool tab y ++ fieldsFrom sig pool tab k (y + 1) ≡ writtenFields (unlessDecided d (y := full B y) (listedFrom (full B) k (y + 1)))
       go (yes e) h = rw (part-none sig pool tab y (entry-own y (omega arith) e), h)
       go (no n) h = rw (part-field y (omega arith) n, h)
 
@@ -125,31 +126,31 @@ pub present-one : (e : ℕ) → e ≢ 0 → 1 ≡ present e
 present-one zero n = absurd (n refl)
 present-one (suc e) n = refl
 
-unfoldable pub countFrom : List ℕ → ℕ → ℕ → ℕ
-countFrom tab zero y = 0
-countFrom tab (suc k) y = present (getD tab y 0) + countFrom tab k (y + 1)
+unfoldable pub boundCount : List ℕ → ℕ → ℕ → ℕ
+boundCount tab zero y = 0
+boundCount tab (suc k) y = present (getD tab y 0) + boundCount tab k (y + 1)
 
-pub count-turn : (tab : List ℕ) (k y : ℕ) → k ≢ 0 → countFrom tab k y ≡ present (getD tab y 0) + countFrom tab (k - 1) (y + 1)
-unfolding countFrom
+pub count-turn : (tab : List ℕ) (k y : ℕ) → k ≢ 0 → boundCount tab k y ≡ present (getD tab y 0) + boundCount tab (k - 1) (y + 1)
+unfolding boundCount
 count-turn tab zero y n = absurd (n refl)
 count-turn tab (suc k) y n = let e : suc k - 1 ≡ k = omega arith in rw e
 
-pub count-end : (tab : List ℕ) (k y : ℕ) → k ≡ 0 → countFrom tab k y ≡ 0
-unfolding countFrom
+pub count-end : (tab : List ℕ) (k y : ℕ) → k ≡ 0 → boundCount tab k y ≡ 0
+unfolding boundCount
 count-end tab k y e = rw e
 
-module _ (sig pool tab : List ℕ) (G : Given sig pool) (B : List Bind) (g : Good B) (t : Tab sig pool tab B) (few : length B ≤ 64) where
-  counts : (k y : ℕ) → y + k ≤ 64 → countFrom tab k y ≡ length (listedFrom (full B) k y)
-  unfolding countFrom listedFrom
+module _ (sig pool tab : List ℕ) (G : Given sig pool) (B : List Bind) (g : GoodBindings B) (t : Tab sig pool tab B) (few : length B ≤ 64) where
+  counts : (k y : ℕ) → y + k ≤ 64 → boundCount tab k y ≡ length (listedFrom (full B) k y)
+  unfolding boundCount listedFrom
   counts zero y b = refl
   counts (suc k) y b = go (items? (full B y) (vars y)) (counts k (y + 1) (omega arith))
     where
-      go : (d : Dec (full B y ≡ vars y)) → countFrom tab k (y + 1) ≡ length (listedFrom (full B) k (y + 1))
-          → present (getD tab y 0) + countFrom tab k (y + 1) ≡ length (unless d (y := full B y) (listedFrom (full B) k (y + 1)))
+      go : (d : Dec (full B y ≡ vars y)) → boundCount tab k (y + 1) ≡ length (listedFrom (full B) k (y + 1))
+          → present (getD tab y 0) + boundCount tab k (y + 1) ≡ length (unlessDecided d (y := full B y) (listedFrom (full B) k (y + 1)))
       go (yes e) h = rw (entry-own sig pool tab G B g t few y (omega arith) e, h) (omega arith)
       go (no n) h = let c = present-one (getD tab y 0) (entry-other sig pool tab G B g t few y (omega arith) n) in omega arith
 
-  pub count-full : countFrom tab 64 0 ≡ countOf (full B)
+  pub count-full : boundCount tab 64 0 ≡ countOf (full B)
   unfolding countOf
   count-full = counts 64 0 (omega arith)
 

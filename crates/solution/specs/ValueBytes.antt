@@ -11,7 +11,7 @@ use Rattle.theory.specs.Subst.{vars, app, app-append}
 use Rattle.theory.specs.Items.{item16, items16, number}
 use borrow.Author.Tests.{lt-ltb, le-ltb}
 use Rattle.theory.specs.Nodes.{args}
-use Rattle.joining.specs.Run.{Shape, term}
+use Rattle.joining.specs.Run.{BindingTable, term}
 use Rattle.definitions.specs.Records.{bytes}
 use Rattle.theory.specs.ItemWalk.{extra, args-turn, args-end, Walk, walk-turn}
 use Rattle.solution.specs.Values.{value, value-zero, value-free, value-bound}
@@ -116,7 +116,7 @@ pub bound-goes : (tab : List ℕ) (c d r : ℕ) → variableBase ≤ c → d ≢
 bound-goes tab c d zero v n e = goes-plain tab c d (λ h. inr (sym e))
 bound-goes tab c d (suc r) v n e = goes-bound tab c d (suc r) v n (λ z. omega (arith, z)) (sym e)
 
-pub goes-inside : (tab pool : List ℕ) (c d r : ℕ) → Goes tab c d r → Shape tab pool → r ≢ 0 → r - 1 < length pool
+pub goes-inside : (tab pool : List ℕ) (c d r : ℕ) → Goes tab c d r → BindingTable tab pool → r ≢ 0 → r - 1 < length pool
 goes-inside tab pool c d r g s n = go (g .from)
   where
     go : getD tab (c - variableBase) 0 ≡ r ⊎ (r ≡ 0) → r - 1 < length pool

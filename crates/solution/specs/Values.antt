@@ -10,12 +10,12 @@ use lib.Dec.{ltb}
 use lib.ListN.{length, getD, length-append}
 use Rattle.theory.specs.Flat.{Item, sy, va}
 use Rattle.theory.specs.Subst.{vars, app, app-agree, Occurs}
-use Rattle.theory.specs.Unify.{Bind, full, Good, unbound, solved, Has, solves-has}
+use Rattle.theory.specs.Unify.{Bind, full, GoodBindings, unbound, solved, Has, solves-has}
 use Rattle.theory.specs.Order.{FollowingEnds, ends}
 use Rattle.theory.specs.Items.{item16, items16}
 use borrow.Author.Tests.{lt-ltb, le-ltb}
 use Rattle.laws.specs.Choice.{pick}
-use Rattle.joining.specs.Masks.{Named}
+use Rattle.joining.specs.Masks.{WrittenOnly}
 use Rattle.theory.specs.Nodes.{args}
 use Rattle.joining.specs.Run.{Given, Tab, term, node-named}
 use Rattle.theory.specs.ItemWalk.{extra, args-turn}
@@ -46,7 +46,7 @@ module _ (sig pool tab : List ℕ) where
   value-bound d x p e = rw e
 
   -- deep enough, it is the value under all bindings
-  module _ (G : Given sig pool) (B : List Bind) (g : Good B) (t : Tab sig pool tab B) where
+  module _ (G : Given sig pool) (B : List Bind) (g : GoodBindings B) (t : Tab sig pool tab B) where
     at-end : (x : ℕ) → x < 64 → (e : ℕ) → getD tab x 0 ≡ e → FollowingEnds B 0 (vars x) → vars x ≡ full B x
     at-end x b zero e h = sym (unbound x B (rw e at (t x b)))
     at-end x b (suc p) e h = absurd (h x (inl refl) (term sig pool p) (rw e at (t x b)))
@@ -91,7 +91,7 @@ size-app σ (sy f ∷ l) = rw (size-app σ l)
 size-app σ (va x ∷ l) = simp (length-append, size-app σ l)
 
 -- the entries may be cut at c
-size-cut : (c : ℕ) (s r : ℕ → ℕ) (l : List Item) → Named l → ((y : ℕ) → y < 64 → s y ≡ min (r y) c) → min (size s l) c ≡ min (size r l) c
+size-cut : (c : ℕ) (s r : ℕ → ℕ) (l : List Item) → WrittenOnly l → ((y : ℕ) → y < 64 → s y ≡ min (r y) c) → min (size s l) c ≡ min (size r l) c
 size-cut c s r [] n h = refl
 size-cut c s r (sy f ∷ l) n h = omega (arith, size-cut c s r l n h)
 size-cut c s r (va x ∷ l) n h = omega (arith, size-cut c s r l (λ y i. n y (inr i)) h, h x (n x (inl refl)))

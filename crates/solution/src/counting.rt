@@ -9,9 +9,9 @@ use variables::WrittenVariable;
 ghost use mathlib.Core.Path.{_≡_};
 ghost use Prim.Native.Nat.{ℕ, _≤_, _<_, min};
 ghost use lib.ListN.{length, getD};
-ghost use Rattle.joining.specs.Run.{Given, Shape, term};
+ghost use Rattle.joining.specs.Run.{Given, BindingTable, term};
 ghost use Rattle.solution.specs.Values.{weigh, size, sizeCut, table, entrySize, Sizes};
-ghost use Rattle.solution.specs.Totals.{bytesIf, totalFrom, present as presence, countFrom};
+ghost use Rattle.solution.specs.Totals.{bytesIf, totalFrom, present as presence, boundCount};
 ghost use Rattle.laws.specs.Sizes.{valueLimit, writtenEnd};
 
 // No size is counted further.
@@ -53,7 +53,7 @@ fn size_of(sig: &[u8], pool: &[u16], sz: &[u16; 64], p: usize) -> usize
 }
 
 fn entry_size(sig: &[u8], pool: &[u16], tab: &[u8; 64], sz: &[u16; 64], y: usize) -> u16
-    requires { ⌜ Given (now sig) (now pool) × Shape (now tab) (now pool) × (y < 64) ⌝ }
+    requires { ⌜ Given (now sig) (now pool) × BindingTable (now tab) (now pool) × (y < 64) ⌝ }
     ensures { λ r. ⌜ r ≡ entrySize (now (sig .entry)) (now (pool .entry)) (now (sz .entry))
         (getD (now (tab .entry)) y 0) ⌝ }
 {
@@ -72,7 +72,7 @@ fn differ(a: u16, b: u16, d: usize) -> usize
 
 // The next round; 0 where it changes nothing.
 fn round(sig: &[u8], pool: &[u16], tab: &[u8; 64], old: &[u16; 64], new: &mut [u16; 64]) -> usize
-    requires { ⌜ Given (now sig) (now pool) × Shape (now tab) (now pool) × (length (now new) ≡ 64) ⌝ }
+    requires { ⌜ Given (now sig) (now pool) × BindingTable (now tab) (now pool) × (length (now new) ≡ 64) ⌝ }
     ensures { λ r. ⌜ ((y : ℕ) → y < 64 → getD (now (new .exit)) y 0
         ≡ entrySize (now (sig .entry)) (now (pool .entry)) (now (old .entry)) (getD (now (tab .entry)) y 0))
         × (r ≡ 0 → (y : ℕ) → y < 64 → getD (now (new .exit)) y 0 ≡ getD (now (old .entry)) y 0) ⌝ }
@@ -94,7 +94,7 @@ pub struct Table {
 
 // The sizes of the values, counted up to 2049, by rounds.
 pub fn sizes(sig: &[u8], pool: &[u16], tab: &[u8; 64]) -> Table
-    requires { ⌜ Given (now sig) (now pool) × Shape (now tab) (now pool) ⌝ }
+    requires { ⌜ Given (now sig) (now pool) × BindingTable (now tab) (now pool) ⌝ }
     ensures { λ r. ⌜ Sizes (now (sig .entry)) (now (pool .entry)) (now (tab .entry)) 64 (r .sizes) ⌝ }
 {
     let mut old = [1u16; 64];
@@ -157,7 +157,7 @@ fn present(e: u8) -> usize
 
 // The variables that have a binding.
 pub fn fields(tab: &[u8; 64]) -> usize
-    ensures { λ r. ⌜ r ≡ countFrom (now (tab .entry)) 64 0 ⌝ }
+    ensures { λ r. ⌜ r ≡ boundCount (now (tab .entry)) 64 0 ⌝ }
 {
     let mut n: usize = 0;
     let mut y: usize = 0;

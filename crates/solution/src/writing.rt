@@ -8,7 +8,7 @@ use variables::WrittenVariable;
 ghost use mathlib.Core.Path.{_≡_};
 ghost use Prim.Native.Nat.{ℕ, _≤_, _<_};
 ghost use lib.ListN.{length, getD};
-ghost use Rattle.joining.specs.Run.{Given, Shape};
+ghost use Rattle.joining.specs.Run.{Given, BindingTable};
 ghost use Rattle.solution.specs.Values.{value};
 ghost use Rattle.solution.specs.Filling.{Filled};
 ghost use Rattle.solution.specs.ValueBytes.{itemBytes, termBytes, Goes};
@@ -38,7 +38,7 @@ fn put_item(
     c: usize,
     levels: usize,
 ) -> usize
-    requires { ⌜ Given (now sig) (now pool) × Shape (now tab) (now pool) × (c < writtenEnd)
+    requires { ⌜ Given (now sig) (now pool) × BindingTable (now tab) (now pool) × (c < writtenEnd)
         × (length (itemBytes (now sig) (now pool) (now tab) levels c) ≤ length (now out)) ⌝ }
     ensures { λ r. ⌜ Filled (itemBytes (now (sig .entry)) (now (pool .entry)) (now (tab .entry)) levels c)
         (now (out .entry)) (now (out .exit)) r ⌝ }
@@ -54,7 +54,7 @@ fn put_item(
 
 // The value of the term at p in bytes at the start of out; how many.
 fn put(sig: &[u8], pool: &[u16], tab: &[u8; 64], out: &mut [u8], p: usize, levels: usize) -> usize
-    requires { ⌜ Given (now sig) (now pool) × Shape (now tab) (now pool) × (p < length (now pool))
+    requires { ⌜ Given (now sig) (now pool) × BindingTable (now tab) (now pool) × (p < length (now pool))
         × (length (termBytes (now sig) (now pool) (now tab) levels p) ≤ length (now out)) ⌝ }
     ensures { λ r. ⌜ Filled (termBytes (now (sig .entry)) (now (pool .entry)) (now (tab .entry)) levels p)
         (now (out .entry)) (now (out .exit)) r ⌝ }
@@ -73,7 +73,7 @@ fn put(sig: &[u8], pool: &[u16], tab: &[u8; 64], out: &mut [u8], p: usize, level
 
 // The field of the variable y, which has a binding, at the start of out; its bytes.
 fn put_field(sig: &[u8], pool: &[u16], tab: &[u8; 64], out: &mut [u8], y: usize) -> usize
-    requires { ⌜ Given (now sig) (now pool) × Shape (now tab) (now pool) × (y < 64)
+    requires { ⌜ Given (now sig) (now pool) × BindingTable (now tab) (now pool) × (y < 64)
         × (length (part (now sig) (now pool) (now tab) y) ≤ length (now out))
         × (length (value (now sig) (now pool) (now tab) 64 y) ≤ valueLimit) × (getD (now tab) y 0 ≡ 0 → ⊥) ⌝ }
     ensures { λ r. ⌜ Filled (part (now (sig .entry)) (now (pool .entry)) (now (tab .entry)) y) (now (out .entry))
@@ -91,7 +91,7 @@ fn put_field(sig: &[u8], pool: &[u16], tab: &[u8; 64], out: &mut [u8], y: usize)
 }
 
 fn put_part(sig: &[u8], pool: &[u16], tab: &[u8; 64], out: &mut [u8], y: usize) -> usize
-    requires { ⌜ Given (now sig) (now pool) × Shape (now tab) (now pool) × (y < 64)
+    requires { ⌜ Given (now sig) (now pool) × BindingTable (now tab) (now pool) × (y < 64)
         × (length (part (now sig) (now pool) (now tab) y) ≤ length (now out))
         × (length (value (now sig) (now pool) (now tab) 64 y) ≤ valueLimit) ⌝ }
     ensures { λ r. ⌜ Filled (part (now (sig .entry)) (now (pool .entry)) (now (tab .entry)) y) (now (out .entry))
@@ -105,7 +105,7 @@ fn put_part(sig: &[u8], pool: &[u16], tab: &[u8; 64], out: &mut [u8], y: usize) 
 
 // The record at the start of out; its bytes.
 pub fn put_record(sig: &[u8], pool: &[u16], tab: &[u8; 64], out: &mut [u8]) -> usize
-    requires { ⌜ Given (now sig) (now pool) × Shape (now tab) (now pool)
+    requires { ⌜ Given (now sig) (now pool) × BindingTable (now tab) (now pool)
         × (length (recordBytes (now sig) (now pool) (now tab)) ≤ length (now out))
         × ((y : ℕ) → y < 64 → length (value (now sig) (now pool) (now tab) 64 y) ≤ valueLimit) ⌝ }
     ensures { λ r. ⌜ Filled (recordBytes (now (sig .entry)) (now (pool .entry)) (now (tab .entry))) (now (out .entry))

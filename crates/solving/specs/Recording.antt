@@ -17,10 +17,10 @@ use Rattle.theory.specs.Flat.{Item}
 use Rattle.theory.specs.Unify.{Bind, full}
 use Rattle.theory.specs.Items.{items, shift, Fine}
 use Rattle.theory.specs.Relations.{Unifies}
-use Rattle.theory.specs.Solver.{Solution}
+use Rattle.theory.specs.Solver.{RightBindings}
 use Rattle.definitions.specs.Spelt.{clash}
 use Rattle.definitions.specs.Decisions.{bindings?, bindings-right}
-use Rattle.definitions.specs.Records.{Unifier, recordOf, countOf, written, Short, one-unifier, one-listing}
+use Rattle.definitions.specs.Records.{Unifier, recordOf, countOf, writtenFields, Short, one-unifier, one-listing}
 use Rattle.definitions.specs.Answers.{done, refuse, longFrom, recorded}
 use Rattle.solution.specs.Filling.{front}
 use Rattle.solution.specs.Promise.{Promise}
@@ -82,7 +82,7 @@ module _ (sig : List ℕ) (a b : List Item) (T : Tables) (out₀ out : List ℕ)
   -- what two unifiers share
   same-record : (θ η : ℕ → List Item) → Unifier sig a b θ → Unifier sig a b η → recordOf θ ≡ recordOf η
   unfolding recordOf
-  same-record θ η u v = ap written (one-listing sig a b θ η u v)
+  same-record θ η u v = ap writtenFields (one-listing sig a b θ η u v)
 
   same-count : (θ η : ℕ → List Item) → Unifier sig a b θ → Unifier sig a b η → countOf θ ≡ countOf η
   unfolding countOf
@@ -108,7 +108,7 @@ module _ (sig : List ℕ) (a b : List Item) (T : Tables) (out₀ out : List ℕ)
           let e = same-record θ (full B) v u in
           rw (long-no (full B) (same-short θ (full B) v u s), le-ltb (length out₀) (length (recordOf (full B))) (omega (arith, l, ap length e)), c, d, e, same-count θ (full B) v u)
 
-  recorded-by : (o : Option (List Bind)) → Solution (arity sig) a b o → (k : Recorded) → Promise sig a b out₀ out k → outcome (replyOf k) T out ≡ told out₀ (result (recorded o (length out₀)) T T)
+  recorded-by : (o : Option (List Bind)) → RightBindings (arity sig) a b o → (k : Recorded) → Promise sig a b out₀ out k → outcome (replyOf k) T out ≡ told out₀ (result (recorded o (length out₀)) T T)
   recorded-by none s (Written m n) p = absurd (s (p .by) (p .unifier .mgu .sub) (p .unifier .mgu .unifies))
   recorded-by none s Nothing p = rw (p .1) (refused-told Refusal.Nothing T T out₀ _ refl)
   recorded-by none s Long p = absurd (s (p .0 .by) (p .0 .unifier .mgu .sub) (p .0 .unifier .mgu .unifies))

@@ -13,7 +13,7 @@ use Rattle.definitions.specs.Answers.{Answer, refused, refuse, opened, slot, sl
 use Rattle.layout.specs.Layout.{signatureOf, isUsed}
 use Rattle.layout.specs.Tables.{Tables}
 use Rattle.calls.specs.Outcome.{Result, result, guarded}
-use Rattle.store.specs.Tables.{upsOf, endsOf, roomFor, openedWith, freeSlot, insertedAt, deletedAt, slotsWith}
+use Rattle.store.specs.Tables.{upsOf, endsOf, roomFor, openedWith, freeSlot, insertedAt, deletedAt, slotsOfKey}
 use Rattle.laws.specs.Sizes.{slotCount}
 
 -- 2, or everything empty
@@ -38,6 +38,6 @@ unfoldable pub deleting : Tables → ℕ → Result
 deleting T s = result (guarded T (pick (isUsed (T .used) s) (slot s) (refuse Refusal.Slot))) T (deletedAt T s)
 
 -- 9, 15, or the slots with the key, ascending; no table changes
-unfoldable pub asking : Tables → List ℕ → ℕ → Result
-asking T k room = let ms = members (slotsWith T k) in
+unfoldable pub keyQuestion : Tables → List ℕ → ℕ → Result
+keyQuestion T k room = let ms = members (slotsOfKey T k) in
     result (guarded T (pick (isKey (signatureOf (T .bytes)) k) (fits ms room (slots ms)) (refuse Refusal.Key))) T T

@@ -24,16 +24,19 @@ use Rattle.paths.specs.Free.{frees, room}
 use Rattle.paths.specs.TreeWalk.{upsT, upsA, endsT, keyList}
 use Rattle.paths.specs.Insert.{RK, With}
 use Rattle.paths.specs.Locate.{numList, missing, located as locatedKeys, lack-of}
-use Rattle.paths.specs.StoredTrees.{Stored, KeyIn, put, Fine, fine-back, fine-nodup, fine-in}
+use Rattle.paths.specs.StoredTrees.{Stored, KeyIn, putTree, Storable, fine-back, fine-nodup, fine-in}
 use Rattle.paths.specs.SpeltKeys.{spelt}
 use Rattle.paths.specs.Count.{Distinct, keys-then, keys-refused}
 use Rattle.termkeys.specs.TermKeysMean.{GoodSt, insert-means, delete-means, fill-nums}
 use Rattle.layout.specs.Layout.{termOf, usedOf, isUsed, withTerm}
 use Rattle.layout.proofs.LayoutLaws.{signature-good, length-with-term}
 use Rattle.layout.specs.Tables.{Tables}
-use Rattle.store.specs.Tables.{indexOf, upsOf, endsOf, noNumbers, located, roomFor, withKeys, withoutKeys, withoutTerm, leastFrom, freeSlot, insertedAt, deletedAt}
-use Rattle.store.specs.Kept.{with-signature, with-term-same, with-term-other, insert-same, insert-other, insert-words, remove-same, remove-other, remove-words, has-others}
-use Rattle.store.specs.TablesHold.{Slots, changed, changed-same, changed-other, filled, treeIn, trees, trees-changed, good-same, Holds}
+use Rattle.store.specs.Tables.{indexOf, upsOf, endsOf, noNumbers, located, roomFor, withKeys, withoutKeys}
+use Rattle.store.specs.Tables.{withoutTerm, leastFrom, freeSlot, insertedAt, deletedAt}
+use Rattle.store.specs.Kept.{with-signature, with-term-same, with-term-other, insert-same, insert-other}
+use Rattle.store.specs.Kept.{insert-words, remove-same, remove-other, remove-words, has-others}
+use Rattle.store.specs.TablesHold.{Slots, changed, changed-same, changed-other, filled, storedTree, storedTrees}
+use Rattle.store.specs.TablesHold.{trees-changed, good-same, Holds}
 use Rattle.laws.specs.Sizes.{keyLimit, slotCount}
 
 -- the outline of a checked term is that of its tree
@@ -49,7 +52,7 @@ mutual
       omega (arith, length-append (upsT m (suc (n * 8 + i)) t) (upsA (m + size t) n (suc i) us), ups-length t m (suc (n * 8 + i)), upsA-length us (m + size t) n (suc i))
 
 pub record Drawn (sig t : List ℕ) : Type 0 where
-  pub fine : Fine (treeOf sig t)
+  pub fine : Storable (treeOf sig t)
   pub ups : upsOf sig t ≡ upsT 0 0 (treeOf sig t)
   pub ends : endsOf sig t ≡ endsT (treeOf sig t)
   pub same : length (upsT 0 0 (treeOf sig t)) ≡ length (endsT (treeOf sig t))
@@ -138,12 +141,12 @@ room-frees T sig st t h d = rw (room-count (T .link) (T .label) sig t d) (room (
 
 -- INSERT
 insert-index : (T : Tables) (sig : List ℕ) (st : Slots) (t : List ℕ) (s : ℕ) → Holds T sig st → Drawn sig t → s < slotCount → st s ≡ none → roomFor (T .link) (T .label) (upsOf sig t) (endsOf sig t) ≡ true
-    → GoodSt (withKeys (indexOf T) (upsOf sig t) (endsOf sig t) s) (trees sig (changed st s (some t)))
+    → GoodSt (withKeys (indexOf T) (upsOf sig t) (endsOf sig t) s) (storedTrees sig (changed st s (some t)))
 unfolding withKeys noNumbers
 insert-index T sig st t s h d l e r =
     let u = treeOf sig t in
     let m = room-frees T sig st t h d .0 r in
-    let g = insert-means (indexOf T) (trees sig st) s u noNumbers (h .index) l (ap (treeIn sig) e) (d .fine) (let w = d .few in omega arith) (d .same) m in
+    let g = insert-means (indexOf T) (storedTrees sig st) s u noNumbers (h .index) l (ap (storedTree sig) e) (d .fine) (let w = d .few in omega arith) (d .same) m in
     rw (d .ups, d .ends) (good-same _ _ _ (trees-changed sig st s (some t)) g)
 
 pub insert-holds : (T : Tables) (sig : List ℕ) (st : Slots) (t : List ℕ) (s : ℕ) → Holds T sig st → refusal sig t ≡ 0 → s < slotCount → st s ≡ none → roomFor (T .link) (T .label) (upsOf sig t) (endsOf sig t) ≡ true
@@ -184,11 +187,11 @@ insert-holds T sig st t s h r l e m =
 
 -- DELETE
 delete-index : (T : Tables) (sig : List ℕ) (st : Slots) (t : List ℕ) (s : ℕ) → Holds T sig st → Drawn sig t → s < slotCount → st s ≡ some t
-    → GoodSt (withoutKeys (indexOf T) (upsOf sig t) (endsOf sig t) s) (trees sig (changed st s none))
+    → GoodSt (withoutKeys (indexOf T) (upsOf sig t) (endsOf sig t) s) (storedTrees sig (changed st s none))
 unfolding withoutKeys located noNumbers
 delete-index T sig st t s h d l e =
     let u = treeOf sig t in
-    let g = delete-means (indexOf T) (trees sig st) s u noNumbers (h .index) l (ap (treeIn sig) e) (d .fine) (let w = d .few in omega arith) (d .same) in
+    let g = delete-means (indexOf T) (storedTrees sig st) s u noNumbers (h .index) l (ap (storedTree sig) e) (d .fine) (let w = d .few in omega arith) (d .same) in
     rw (d .ups, d .ends) (good-same _ _ _ (trees-changed sig st s none) g)
 
 pub delete-holds : (T : Tables) (sig : List ℕ) (st : Slots) (t : List ℕ) (s : ℕ) → Holds T sig st → s < slotCount → st s ≡ some t → Holds (deletedAt T s) sig (changed st s none)
@@ -226,8 +229,8 @@ use-means T sig st s h = go (decLt s slotCount)
     go (no l) = rw (le-ltb s slotCount (omega arith), h .beyond s (omega arith))
 
 -- REFUSAL 12: a term goes in exactly where the store with it would have at most 4,096 distinct keys
-with-stored : (st : ℕ → Option Tm) (s : ℕ) (t : Tm) → st s ≡ none → Fine t → (u : ℕ) (P : Place) (x : ℕ) → Stored (put st s (some t)) u P x ↔ With (Stored st) s (keyList [] (upsT 0 0 t) (endsT t)) u P x
-unfolding put
+with-stored : (st : ℕ → Option Tm) (s : ℕ) (t : Tm) → st s ≡ none → Storable t → (u : ℕ) (P : Place) (x : ℕ) → Stored (putTree st s (some t)) u P x ↔ With (Stored st) s (keyList [] (upsT 0 0 t) (endsT t)) u P x
+unfolding putTree
 with-stored st s t e f u P x = go (ℕ-discrete u s)
   where
     go : Dec (u ≡ s) → KeyIn (pick (eqb u s) (some t) (st u)) P x ↔ With (Stored st) s (keyList [] (upsT 0 0 t) (endsT t)) u P x
@@ -258,7 +261,7 @@ distinct-iff R Q n e d = record {
     fro s (key P x) h = e s P x .1 h
 
 abbrev pub KeysOf : List ℕ → Slots → ℕ → Place → ℕ → Type 0
-KeysOf sig st = Stored (trees sig st)
+KeysOf sig st = Stored (storedTrees sig st)
 
 pub room-means : (T : Tables) (sig : List ℕ) (st : Slots) (t : List ℕ) (s N : ℕ) → Holds T sig st → refusal sig t ≡ 0 → st s ≡ none → Distinct (KeysOf sig (changed st s (some t))) N
     → (roomFor (T .link) (T .label) (upsOf sig t) (endsOf sig t) ≡ true) ↔ (N ≤ keyLimit)
@@ -280,18 +283,18 @@ room-means T sig st t s N h r e d =
     f : (roomFor (T .link) (T .label) (upsOf sig t) (endsOf sig t) ≡ true) ↔ (M ≤ frees (T .label))
     f = room-frees T sig st t h w
 
-    seen : (a : ℕ) (P : Place) (x : ℕ) → KeysOf sig (changed st s (some t)) a P x ↔ Stored (put (trees sig st) s (some u)) a P x
+    seen : (a : ℕ) (P : Place) (x : ℕ) → KeysOf sig (changed st s (some t)) a P x ↔ Stored (putTree (storedTrees sig st) s (some u)) a P x
     seen a P x = (
-      (λ (q : KeyIn (trees sig (changed st s (some t)) a) P x). subst (λ (o : Option Tm). KeyIn o P x) (sym (trees-changed sig st s (some t) a)) q),
-      (λ (q : KeyIn (put (trees sig st) s (some u) a) P x). subst (λ (o : Option Tm). KeyIn o P x) (trees-changed sig st s (some t) a) q),
+      (λ (q : KeyIn (storedTrees sig (changed st s (some t)) a) P x). subst (λ (o : Option Tm). KeyIn o P x) (sym (trees-changed sig st s (some t) a)) q),
+      (λ (q : KeyIn (putTree (storedTrees sig st) s (some u) a) P x). subst (λ (o : Option Tm). KeyIn o P x) (trees-changed sig st s (some t) a) q),
     )
 
-    d′ : Distinct (With (Stored (trees sig st)) s (keyList [] (upsT 0 0 u) (endsT u))) N
-    d′ = distinct-iff _ _ N (with-stored (trees sig st) s u (ap (treeIn sig) e) (w .fine)) (distinct-iff _ _ N seen d)
+    d′ : Distinct (With (Stored (storedTrees sig st)) s (keyList [] (upsT 0 0 u) (endsT u))) N
+    d′ = distinct-iff _ _ N (with-stored (storedTrees sig st) s u (ap (storedTree sig) e) (w .fine)) (distinct-iff _ _ N seen d)
 
     k : (frees (T .label) < M) ↔ (keyLimit < N)
-    k = keys-refused (T .link) (T .label) (mem (indexOf T .sets)) (Stored (trees sig st)) (h .index .rep) (h .index .full) s (keyList [] (upsT 0 0 u) (endsT u)) M N (fine-nodup u (w .fine))
-        (lack-of (T .label) _ _ (locatedKeys (T .link) (T .label) (mem (indexOf T .sets)) (Stored (trees sig st)) (h .index .rep) (upsT 0 0 u) (endsT u) [] [] tt (fine-back u (w .fine)) (w .fine .ends))) d′
+    k = keys-refused (T .link) (T .label) (mem (indexOf T .sets)) (Stored (storedTrees sig st)) (h .index .rep) (h .index .full) s (keyList [] (upsT 0 0 u) (endsT u)) M N (fine-nodup u (w .fine))
+        (lack-of (T .label) _ _ (locatedKeys (T .link) (T .label) (mem (indexOf T .sets)) (Stored (storedTrees sig st)) (h .index .rep) (upsT 0 0 u) (endsT u) [] [] tt (fine-back u (w .fine)) (w .fine .ends))) d′
 
     fits : Dec (keyLimit < N) → M ≤ frees (T .label) → N ≤ keyLimit
     fits (yes p) m = absurd (let z = k .1 p in omega (arith, z))

@@ -9,7 +9,8 @@ use native.Mathlib.Nat.{mod-eq-of-lt}
 use borrow.Author.Tests.{le-ltb, le-leb, ltb-false}
 use lib.Dec.{ltb}
 use lib.Bits.{bitAnd, bitOr, bitXor, or-lt, xor-lt, and-lt}
-use lib.ListN.{length, getD, set, take, drop, replicate, length-take, length-drop, length-set, length-replicate, List·getD-append}
+use lib.ListN.{length, getD, set, take, drop, replicate, length-take, length-drop, length-set, length-replicate}
+use lib.ListN.{List·getD-append}
 use lib.Pow.{pow-lt}
 use lib.Seq.{sets, length-sets, ext-getD, getD-take, getD-drop, getD-set-same, getD-set-other}
 use Rattle.laws.specs.Digits.{bit}

@@ -21,10 +21,10 @@ getD-count k zero i h = absurd (omega arith)
 getD-count k (suc n) zero h = omega arith
 getD-count k (suc n) (suc i) h = let z = getD-count (suc k) n i (omega arith) in omega (arith, z)
 
-abbrev zeros : ℕ → List ℕ
-zeros n = replicate n 0
+abbrev zeroLinks : ℕ → List ℕ
+zeroLinks n = replicate n 0
 
-getD-zeros : (n i : ℕ) → getD (zeros n) i 0 ≡ 0
+getD-zeros : (n i : ℕ) → getD (zeroLinks n) i 0 ≡ 0
 getD-zeros zero i = refl
 getD-zeros (suc n) zero = refl
 getD-zeros (suc n) (suc i) = getD-zeros n i
@@ -34,14 +34,14 @@ module _ (a b : ℕ) (l : List ℕ) where
   rear = 1 ∷ drop (a + b + 1) l
 
   abbrev mid : List ℕ
-  mid = zeros b ++ rear
+  mid = zeroLinks b ++ rear
 
   abbrev whole : List ℕ
   whole = countFrom 2 a ++ mid
 
   length-whole : a + b + 1 ≤ length l → length whole ≡ length l
   length-whole h =
-      omega (arith, length-append (countFrom 2 a) mid, length-count 2 a, length-append (zeros b) rear, length-replicate {A = ℕ} b 0, length-drop (a + b + 1) l)
+      omega (arith, length-append (countFrom 2 a) mid, length-count 2 a, length-append (zeroLinks b) rear, length-replicate {A = ℕ} b 0, length-drop (a + b + 1) l)
 
   from-mid : (i : ℕ) → a ≤ i → getD whole i 0 ≡ getD mid (i - a) 0
   from-mid i h =
@@ -50,8 +50,8 @@ module _ (a b : ℕ) (l : List ℕ) where
 
   from-rear : (i : ℕ) → b ≤ i → getD mid i 0 ≡ getD rear (i - b) 0
   from-rear i h =
-      let z : i ≡ length (zeros b) + (i - b) = omega (arith, length-replicate {A = ℕ} b 0) in
-      ap (λ (j : ℕ). getD mid j 0) z ∙ getD-append-add (zeros b) rear (i - b) 0
+      let z : i ≡ length (zeroLinks b) + (i - b) = omega (arith, length-replicate {A = ℕ} b 0) in
+      ap (λ (j : ℕ). getD mid j 0) z ∙ getD-append-add (zeroLinks b) rear (i - b) 0
 
   spot : (i v : ℕ) → (i < a → v ≡ 2 + i) → (a ≤ i → i < a + b → v ≡ 0) → (i ≡ a + b → v ≡ 1) → (a + b + 1 ≤ i → v ≡ getD l i 0) → v ≡ getD whole i 0
   spot i v p q r s = go (decLt i a) (decLt i (a + b)) (ℕ-discrete i (a + b))
@@ -60,7 +60,7 @@ module _ (a b : ℕ) (l : List ℕ) where
       low h = List·getD-append (countFrom 2 a) mid 0 i (omega (arith, length-count 2 a)) ∙ getD-count 2 a i h
 
       blanks : a ≤ i → i < a + b → getD whole i 0 ≡ 0
-      blanks h g = from-mid i h ∙ List·getD-append (zeros b) rear 0 (i - a) (omega (arith, length-replicate {A = ℕ} b 0)) ∙ getD-zeros b (i - a)
+      blanks h g = from-mid i h ∙ List·getD-append (zeroLinks b) rear 0 (i - a) (omega (arith, length-replicate {A = ℕ} b 0)) ∙ getD-zeros b (i - a)
 
       rest : a + b ≤ i → getD whole i 0 ≡ getD rear (i - a - b) 0
       rest h = from-mid i (omega arith) ∙ from-rear (i - a) (omega arith)

@@ -29,21 +29,21 @@ use Rattle.paths.specs.StoredTrees.{KeyIn}
 use Rattle.layout.specs.Layout.{usedOf}
 use Rattle.layout.proofs.LayoutLaws.{signature-good}
 use Rattle.layout.specs.Tables.{Tables}
-use Rattle.store.specs.Tables.{endNumber, numberFrom, keyNumber, slotsWith}
-use Rattle.store.specs.TablesHold.{Slots, filled, treeIn, Holds, zero-digit}
+use Rattle.store.specs.Tables.{endNumber, numberFrom, keyNumber, slotsOfKey}
+use Rattle.store.specs.TablesHold.{Slots, filled, storedTree, Holds, zero-digit}
 use Rattle.store.specs.Changes.{KeysOf}
 use Rattle.laws.specs.Sizes.{keyLimit, rootPlace, slotCount}
 use Rattle.terms.specs.Terms.{arity}
 
 -- the number that is found is the key's, if some key in use is that key
-pub record Named (label : List ℕ) (m : ℕ) (K : Key) : Type 0 where
+pub record KeyFound (label : List ℕ) (m : ℕ) (K : Key) : Type 0 where
   pub found : m < keyLimit → DenK label m K
   pub lost : keyLimit ≤ m → (k : ℕ) → DenK label k K → ⊥
 
 -- the steps so far lead to a place in the table, or to none
-data Going (label : List ℕ) (p : ℕ) (P : Place) : Type 0 where
-  here : At label p P → Going label p P
-  nowhere : 8 * keyLimit ≤ p → p < rootPlace → ((n : ℕ) → At label n P → ⊥) → Going label p P
+data ChainGoing (label : List ℕ) (p : ℕ) (P : Place) : Type 0 where
+  here : At label p P → ChainGoing label p P
+  nowhere : 8 * keyLimit ≤ p → p < rootPlace → ((n : ℕ) → At label n P → ⊥) → ChainGoing label p P
 
 -- a step that a key may have
 step-small : (sig : List ℕ) (f i : ℕ) → Signed sig → stepGood sig f i ≡ true → (f < 257) × (i - 1 < 8)
@@ -91,13 +91,13 @@ module _ (link label : List ℕ) (mem′ : ℕ → ℕ → Type 0) (R : ℕ → 
           absurd (not-at (w .num) (d .0) (w .at) (y .0))
 
   -- one step
-  going : (p f i : ℕ) (P : Place) → Going label p P → f < 257 → i < 8 → Going label (find link label (lab p f) * 8 + i) (step P f i)
+  going : (p f i : ℕ) (P : Place) → ChainGoing label p P → f < 257 → i < 8 → ChainGoing label (find link label (lab p f) * 8 + i) (step P f i)
   going p f i P (here a) l b = go (decLt (find link label (lab p f)) keyLimit)
     where
       k : ℕ
       k = find link label (lab p f)
 
-      go : Dec (k < keyLimit) → Going label (k * 8 + i) (step P f i)
+      go : Dec (k < keyLimit) → ChainGoing label (k * 8 + i) (step P f i)
       go (yes q) = here (kid a q (find-sound link label (lab p f) (r .chains) q) l b refl)
       go (no q) = let z = find-le link label (lab p f) in nowhere (omega (arith, z)) (omega (arith, z)) (λ n s. none-at n s)
         where
@@ -113,11 +113,11 @@ module _ (link label : List ℕ) (mem′ : ℕ → ℕ → Type 0) (R : ℕ → 
       none-at m (kid {n = n₁} a₁ l₁ h₁ f₁ b₁ m₁) = n n₁ a₁
 
   -- the end
-  named : (p e : ℕ) (P : Place) → Going label p P → e < 257 → Named label (find link label (lab p e)) (key P e)
+  named : (p e : ℕ) (P : Place) → ChainGoing label p P → e < 257 → KeyFound label (find link label (lab p e)) (key P e)
   named p e P (here a) l = record { found = λ q. find-den link label mem′ R r p P e a l q; lost = λ q k d. find-none link label mem′ R r p P e a l q k d }
   named p e P (nowhere lo hi n) l = record { found = λ q. absurd (let z = none-there p e lo hi l in omega (arith, z)); lost = λ q k d. n (d .num) (d .at) }
 
-  number-means : (sig : List ℕ) (p : ℕ) (P : Place) (k : List ℕ) → Signed sig → Going label p P → stepsGood sig k ≡ true → Named label (numberFrom link label p k) (keyAfter P k)
+  number-means : (sig : List ℕ) (p : ℕ) (P : Place) (k : List ℕ) → Signed sig → ChainGoing label p P → stepsGood sig k ≡ true → KeyFound label (numberFrom link label p k) (keyAfter P k)
   unfolding numberFrom keyAfter stepsGood
   number-means sig p P [] g w h = absurd (let z : _≡_ {A = ℕ} 0 1 = cc in omega arith)
   number-means sig p P (a ∷ []) g w h = absurd (let z : _≡_ {A = ℕ} 0 1 = cc in omega arith)
@@ -147,8 +147,8 @@ met-none S m ws s l = rw (le-ltb m keyLimit l) (zero-words 8 (s / 64))
     zero-words (suc n) (suc i) = zero-words n i
 
 -- THE KEY QUESTION: a slot is listed exactly where it holds a term that has the key
-pub key-means : (T : Tables) (sig : List ℕ) (st : Slots) (k : List ℕ) (s : ℕ) → Holds T sig st → isKey sig k ≡ true → s < slotCount → (has (slotsWith T k) s ≡ 1) ↔ RK (KeysOf sig st) s (keyOf k)
-unfolding slotsWith keyNumber isKey keyOf
+pub key-means : (T : Tables) (sig : List ℕ) (st : Slots) (k : List ℕ) (s : ℕ) → Holds T sig st → isKey sig k ≡ true → s < slotCount → (has (slotsOfKey T k) s ≡ 1) ↔ RK (KeysOf sig st) s (keyOf k)
+unfolding slotsOfKey keyNumber isKey keyOf
 key-means T sig st k s h e l = go (keyAfter root k) n (decLt m keyLimit)
   where
     G : Signed sig
@@ -164,17 +164,17 @@ key-means T sig st k s h e l = go (keyAfter root k) n (decLt m keyLimit)
     good-steps true q = absurd (let z : _≡_ {A = ℕ} 0 1 = cc in omega arith)
     good-steps false q = q
 
-    n : Named (T .label) m (keyAfter root k)
+    n : KeyFound (T .label) m (keyAfter root k)
     n = number-means (T .link) (T .label) (mem S) (KeysOf sig st) (h .index .rep) sig rootPlace root k G (here top) (good-steps (ltb 95 (length k)) e)
 
     in-slot : (P : Place) (x : ℕ) → KeysOf sig st s P x → has (usedOf (T .used)) s ≡ 1
     in-slot P x q = h .slots s l ∙ some-there (st s) q
       where
-        some-there : (o : Option (List ℕ)) → KeyIn (treeIn sig o) P x → filled o ≡ 1
+        some-there : (o : Option (List ℕ)) → KeyIn (storedTree sig o) P x → filled o ≡ 1
         some-there none q = absurd q
         some-there (some t) q = refl
 
-    go : (K : Key) → Named (T .label) m K → Dec (m < keyLimit) → (has (met S m (usedOf (T .used))) s ≡ 1) ↔ RK (KeysOf sig st) s K
+    go : (K : Key) → KeyFound (T .label) m K → Dec (m < keyLimit) → (has (met S m (usedOf (T .used))) s ≡ 1) ↔ RK (KeysOf sig st) s K
     go (key P x) d (yes q) = (
       (λ z. let y = met-has S m (usedOf (T .used)) s q l in h .index .rep .into m s P x (d .found q) (q, l, omega (arith, z, y))),
       (λ z. let y = met-has S m (usedOf (T .used)) s q l in let w = h .index .rep .from m s P x (d .found q) z in let v = in-slot P x z in let b = w .2 in omega (arith, y, v, b)),

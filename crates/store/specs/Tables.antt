@@ -121,5 +121,5 @@ unfoldable pub keyNumber : List ℕ → List ℕ → List ℕ → ℕ
 keyNumber link label k = numberFrom link label rootPlace k
 
 -- the slots in use whose term has the key
-unfoldable pub slotsWith : Tables → List ℕ → List ℕ
-slotsWith T k = met (four (T .s0) (T .s1) (T .s2) (T .s3)) (keyNumber (T .link) (T .label) k) (usedOf (T .used))
+unfoldable pub slotsOfKey : Tables → List ℕ → List ℕ
+slotsOfKey T k = met (four (T .s0) (T .s1) (T .s2) (T .s3)) (keyNumber (T .link) (T .label) k) (usedOf (T .used))

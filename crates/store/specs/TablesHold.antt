@@ -18,7 +18,7 @@ use Rattle.keys.specs.Keys.{Tm}
 use Rattle.definitions.specs.Trees.{treeOf}
 use Rattle.keysets.specs.KeySets.{Sets, four, tab, word, Ok, mem, mark}
 use Rattle.paths.specs.Insert.{St, rep-iff}
-use Rattle.paths.specs.StoredTrees.{Stored, KeyIn, put}
+use Rattle.paths.specs.StoredTrees.{Stored, KeyIn, putTree}
 use Rattle.paths.specs.Open.{Fresh, open-good}
 use Rattle.termkeys.specs.TermKeysMean.{GoodSt}
 use Rattle.layout.specs.Layout.{Long, signatureOf, termOf, usedOf, blank}
@@ -43,13 +43,13 @@ abbrev pub filled : Option (List ℕ) → ℕ
 filled none = 0
 filled (some t) = 1
 
-abbrev pub treeIn : List ℕ → Option (List ℕ) → Option Tm
-treeIn sig none = none
-treeIn sig (some t) = some (treeOf sig t)
+abbrev pub storedTree : List ℕ → Option (List ℕ) → Option Tm
+storedTree sig none = none
+storedTree sig (some t) = some (treeOf sig t)
 
 -- the terms as trees
-abbrev pub trees : List ℕ → Slots → ℕ → Option Tm
-trees sig st s = treeIn sig (st s)
+abbrev pub storedTrees : List ℕ → Slots → ℕ → Option Tm
+storedTrees sig st s = storedTree sig (st s)
 
 -- the tables stand for the store: the signature, the slots in use, the bytes of each term, and the index, in which
 -- the set of every key is the slots whose term has it and only keys of stored terms are in use
@@ -61,7 +61,7 @@ pub record Holds (T : Tables) (sig : List ℕ) (st : Slots) : Type 0 where
   pub slots : (s : ℕ) → s < slotCount → has (usedOf (T .used)) s ≡ filled (st s)
   pub beyond : (s : ℕ) → slotCount ≤ s → st s ≡ none
   pub terms : (s : ℕ) (t : List ℕ) → st s ≡ some t → (termOf (T .bytes) s ≡ t) × (refusal sig t ≡ 0)
-  pub index : GoodSt (indexOf T) (trees sig st)
+  pub index : GoodSt (indexOf T) (storedTrees sig st)
 
 pub changed-same : (st : Slots) (s : ℕ) (o : Option (List ℕ)) (x : ℕ) → x ≡ s → changed st s o x ≡ o
 unfolding changed
@@ -71,11 +71,11 @@ pub changed-other : (st : Slots) (s : ℕ) (o : Option (List ℕ)) (x : ℕ) →
 unfolding changed
 changed-other st s o x h = rw (ne-eqb x s h)
 
-pub trees-changed : (sig : List ℕ) (st : Slots) (s : ℕ) (o : Option (List ℕ)) (x : ℕ) → put (trees sig st) s (treeIn sig o) x ≡ trees sig (changed st s o) x
-unfolding put changed
+pub trees-changed : (sig : List ℕ) (st : Slots) (s : ℕ) (o : Option (List ℕ)) (x : ℕ) → putTree (storedTrees sig st) s (storedTree sig o) x ≡ storedTrees sig (changed st s o) x
+unfolding putTree changed
 trees-changed sig st s o x = go (eqb x s)
   where
-    go : (b : Bool) → pick b (treeIn sig o) (treeIn sig (st x)) ≡ treeIn sig (pick b o (st x))
+    go : (b : Bool) → pick b (storedTree sig o) (storedTree sig (st x)) ≡ storedTree sig (pick b o (st x))
     go true = refl
     go false = refl
 

@@ -16,7 +16,7 @@ use Rattle.paths.specs.Rep.{lab}
 use Rattle.paths.specs.TreeWalk.{upNum}
 use Rattle.paths.specs.Insert.{St, keyFor, ensured, marked, entered}
 use Rattle.paths.specs.Delete.{freed, cleared, left}
-use Rattle.termkeys.specs.Fill.{tables, fill, both, Both, insFill, delFill}
+use Rattle.termkeys.specs.Fill.{tables, fill, tablesAnd, Both, insFill, delFill}
 use Rattle.laws.specs.Sizes.{keyLimit, rootPlace}
 
 pub up-root : (ks : List ℕ) (u : ℕ) → u ≡ 0 → rootPlace ≡ upNum ks u
@@ -61,7 +61,7 @@ pub ins-turn : (σ τ : St Sets) (ks us es : List ℕ) (s i n w k : ℕ) → i <
 unfolding insFill
 ins-turn σ τ ks us es s i n w k l e q f g h = rw (add-one, drop-cons us i 0 l, drop-cons es i 0 (omega arith), h, g, f, q)
 
-pub ins-end : (σ : St Sets) (ks us es : List ℕ) (s i : ℕ) → length us ≤ i → insFill σ ks s i (drop i us) (drop i es) ≡ both σ ks
+pub ins-end : (σ : St Sets) (ks us es : List ℕ) (s i : ℕ) → length us ≤ i → insFill σ ks s i (drop i us) (drop i es) ≡ tablesAnd σ ks
 unfolding insFill
 ins-end σ ks us es s i h = rw (drop-of-length-le us h)
 

@@ -32,13 +32,13 @@ pub record Both : Type 0 where
   pub st : St Sets
   pub ks : List ℕ
 
-abbrev pub both : St Sets → List ℕ → Both
-both σ ks = record { st = σ; ks = ks }
+abbrev pub tablesAnd : St Sets → List ℕ → Both
+tablesAnd σ ks = record { st = σ; ks = ks }
 
 -- each item's key found or added, and slot s put in
 unfoldable pub insFill : St Sets → List ℕ → ℕ → ℕ → List ℕ → List ℕ → Both
-insFill σ ks s i [] es = both σ ks
-insFill σ ks s i (u ∷ us) [] = both σ ks
+insFill σ ks s i [] es = tablesAnd σ ks
+insFill σ ks s i (u ∷ us) [] = tablesAnd σ ks
 insFill σ ks s i (u ∷ us) (e ∷ es) = insFill (entered Sets mark σ s (lab (upNum ks u) e))
     (set ks i (keyFor Sets mark σ (lab (upNum ks u) e))) s (suc i) us es
 
@@ -48,7 +48,7 @@ delFill σ ks s zero = σ
 delFill σ ks s (suc n) = delFill (left Sets unmark emptyb σ (getD ks n 0 % keyLimit) s) ks s n
 
 -- the six tables are as long as they were
-pub record Same (a b c d e f a′ b′ c′ d′ e′ f′ : List ℕ) : Type 0 where
+pub record SameLengths (a b c d e f a′ b′ c′ d′ e′ f′ : List ℕ) : Type 0 where
   pub e0 : length a ≡ length a′
   pub e1 : length b ≡ length b′
   pub e2 : length c ≡ length c′

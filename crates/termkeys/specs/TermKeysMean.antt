@@ -10,15 +10,17 @@ use lib.Seq.{getD-take, take-suc-set, take-suc}
 use Rattle.chains.specs.Chains.{find}
 use Rattle.laws.specs.Members.{In}
 use Rattle.keys.specs.Keys.{Tm, Place, root, Key, key, HasKey}
-use Rattle.keysets.specs.KeySets.{Sets, Ok, mem, mark, unmark, emptyb, mark-ok, unmark-ok, mark-law, unmark-law, empty-yes, empty-no}
+use Rattle.keysets.specs.KeySets.{Sets, Ok, mem, mark, unmark, emptyb, mark-ok, unmark-ok, mark-law, unmark-law}
+use Rattle.keysets.specs.KeySets.{empty-yes, empty-no}
 use Rattle.paths.specs.Rep.{lab, Den}
 use Rattle.paths.specs.Free.{frees}
 use Rattle.paths.specs.TreeWalk.{upNum, upsT, endsT, keyList}
-use Rattle.paths.specs.Insert.{St, Good, Back, back-one, keyFor, entered, insRun, DenK, Dens}
+use Rattle.paths.specs.Insert.{St, GoodTables, Back, back-one, keyFor, entered, insRun, DenK, Dens}
 use Rattle.paths.specs.Delete.{left, delRun}
 use Rattle.paths.specs.Locate.{numList, missing, located, all-there}
-use Rattle.paths.specs.StoredTrees.{Stored, put, Fine, back, back-snoc, insert-good, delete-good, fine-back, fine-in, KeyIn}
-use Rattle.termkeys.specs.Fill.{fill, insFill, delFill, Both, both}
+use Rattle.paths.specs.StoredTrees.{Stored, putTree, Storable, back, back-snoc, insert-good, delete-good, fine-back}
+use Rattle.paths.specs.StoredTrees.{fine-in, KeyIn}
+use Rattle.termkeys.specs.Fill.{fill, insFill, delFill, Both, tablesAnd}
 use Rattle.laws.specs.Sizes.{keyLimit, slotCount}
 
 -- an item's place is read off the numbers before it
@@ -78,12 +80,12 @@ del-run (suc n) ks σ s l d =
     shorten (suc n) (k ∷ ks) d = (d .0, shorten n ks (d .1))
 
 abbrev pub GoodSt : St Sets → (ℕ → Option Tm) → Type 0
-GoodSt σ st = Good Sets mem mark Ok σ (Stored st)
+GoodSt σ st = GoodTables Sets mem mark Ok σ (Stored st)
 
 -- INSERT: tables that stand for a store stand, after the loop, for the store with the term
-pub insert-means : (σ : St Sets) (st : ℕ → Option Tm) (s : ℕ) (t : Tm) (ks : List ℕ) → GoodSt σ st → s < slotCount → st s ≡ none → Fine t → length (upsT 0 0 t) ≤ length ks → length (upsT 0 0 t) ≡ length (endsT t)
+pub insert-means : (σ : St Sets) (st : ℕ → Option Tm) (s : ℕ) (t : Tm) (ks : List ℕ) → GoodSt σ st → s < slotCount → st s ≡ none → Storable t → length (upsT 0 0 t) ≤ length ks → length (upsT 0 0 t) ≡ length (endsT t)
     → missing (numList (σ .link) (σ .label) [] (upsT 0 0 t) (endsT t)) ≤ frees (σ .label)
-    → GoodSt (insFill σ ks s 0 (upsT 0 0 t) (endsT t) .st) (put st s (some t))
+    → GoodSt (insFill σ ks s 0 (upsT 0 0 t) (endsT t) .st) (putTree st s (some t))
 insert-means σ st s t ks g l e f a b m =
     let h = insert-good Sets mem mark unmark emptyb Ok mark-ok unmark-ok mark-law unmark-law empty-yes empty-no σ st s t g l e f m in
     let z : insFill σ ks s 0 (upsT 0 0 t) (endsT t) .st ≡ insRun Sets mark σ s [] (upsT 0 0 t) (endsT t) = ins-run (upsT 0 0 t) (endsT t) ks σ s 0 (fine-back t f) (omega arith) b in
@@ -94,7 +96,7 @@ dens-low label [] Ks d = tt
 dens-low label (k ∷ ks) [] d = absurd d
 dens-low label (k ∷ ks) (key P e ∷ Ks) d = (d .0 .low, dens-low label ks Ks (d .1))
 
-located-low : (σ : St Sets) (st : ℕ → Option Tm) (s : ℕ) (t : Tm) → GoodSt σ st → st s ≡ some t → Fine t → Lows (numList (σ .link) (σ .label) [] (upsT 0 0 t) (endsT t))
+located-low : (σ : St Sets) (st : ℕ → Option Tm) (s : ℕ) (t : Tm) → GoodSt σ st → st s ≡ some t → Storable t → Lows (numList (σ .link) (σ .label) [] (upsT 0 0 t) (endsT t))
 located-low σ st s t g e f =
     let d = located (σ .link) (σ .label) (mem (σ .sets)) (Stored st) (g .rep) (upsT 0 0 t) (endsT t) [] [] tt (fine-back t f) (f .ends) in
     let L = keyList [] (upsT 0 0 t) (endsT t) in
@@ -111,8 +113,8 @@ fill-length link label (u ∷ us) [] ks i = refl
 fill-length link label (u ∷ us) (x ∷ es) ks i = fill-length link label us es (set ks i (find link label (lab (upNum ks u) x))) (suc i) ∙ length-set ks i (find link label (lab (upNum ks u) x))
 
 -- DELETE: the numbers found by `locate`, then the loop
-pub delete-means : (σ : St Sets) (st : ℕ → Option Tm) (s : ℕ) (t : Tm) (ks : List ℕ) → GoodSt σ st → s < slotCount → st s ≡ some t → Fine t → length (upsT 0 0 t) ≤ length ks → length (upsT 0 0 t) ≡ length (endsT t)
-    → GoodSt (delFill σ (fill (σ .link) (σ .label) ks 0 (upsT 0 0 t) (endsT t)) s (length (upsT 0 0 t))) (put st s none)
+pub delete-means : (σ : St Sets) (st : ℕ → Option Tm) (s : ℕ) (t : Tm) (ks : List ℕ) → GoodSt σ st → s < slotCount → st s ≡ some t → Storable t → length (upsT 0 0 t) ≤ length ks → length (upsT 0 0 t) ≡ length (endsT t)
+    → GoodSt (delFill σ (fill (σ .link) (σ .label) ks 0 (upsT 0 0 t) (endsT t)) s (length (upsT 0 0 t))) (putTree st s none)
 delete-means σ st s t ks g l e f a b =
     let u = upsT 0 0 t in
     let N = numList (σ .link) (σ .label) [] u (endsT t) in

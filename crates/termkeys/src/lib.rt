@@ -13,7 +13,7 @@ use marking::unmark;
 ghost use mathlib.Core.Path.{_≡_};
 ghost use Prim.Native.Nat.{_+_, _-_, _*_, _/_, _%_, _≤_, _<_};
 ghost use lib.ListN.{length, getD, set};
-ghost use Rattle.keysets.specs.KeySets.{Sets, mark as markOf, unmark as unmarkOf, emptyb, Long};
+ghost use Rattle.keysets.specs.KeySets.{Sets, mark as markOf, unmark as unmarkOf, emptyb, SetTablesLong};
 ghost use lib.Dec.{ltb};
 ghost use Rattle.laws.specs.Choice.{pick};
 ghost use Rattle.paths.specs.Locate.{missing as missingOf};
@@ -21,7 +21,7 @@ ghost use Rattle.paths.specs.Rep.{lab};
 ghost use Rattle.paths.specs.TreeWalk.{upNum};
 ghost use Rattle.paths.specs.Insert.{keyFor, entered};
 ghost use Rattle.paths.specs.Delete.{left as leftOf};
-ghost use Rattle.termkeys.specs.Fill.{tables, Sized, fill, both, insFill, delFill};
+ghost use Rattle.termkeys.specs.Fill.{tables, Sized, fill, tablesAnd, insFill, delFill};
 ghost use Rattle.laws.specs.Sizes.{keyLimit, linkLength, placeEnd, slotCount};
 
 // A number of two bytes as part of a label.
@@ -142,7 +142,7 @@ pub fn insert_all(
 )
     requires { ⌜ Sized (now link) (now label) (now s0) (now s1) (now s2) (now s3) × (s < slotCount)
         × (length (now ups) ≡ length (now ends)) × (length (now ups) ≤ length (now ks)) × (32 ≤ length (now ks)) ⌝ }
-    ensures { λ _. ⌜ both
+    ensures { λ _. ⌜ tablesAnd
         (tables (now (link .exit)) (now (label .exit)) (now (s0 .exit)) (now (s1 .exit)) (now (s2 .exit))
         (now (s3 .exit))) (now (ks .exit))
         ≡ insFill

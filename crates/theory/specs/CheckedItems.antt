@@ -1,4 +1,4 @@
--- Serves SCOPE.md, 'Term bytes': a term that the checks of crate `terms` take is one term by its arities.
+-- Serves SCOPE.md, 'Term bytes': a term that the check takes is one term by its arities.
 use mathlib.Core.Path.{_≡_, refl}
 use mathlib.Core.Bool.{Bool, true, false}
 use mathlib.Core.List.{List, [], _∷_}

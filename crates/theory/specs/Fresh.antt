@@ -10,19 +10,19 @@ use native.Mathlib.Decide.{ℕ-discrete}
 use native.Mathlib.Omega.{arith}
 use Rattle.theory.specs.Flat.{Item, sy, va, Terms}
 use Rattle.theory.specs.Subst.{vars, app, app-vars, app-agree, Occurs, in?, Sub}
-use Rattle.theory.specs.Unify.{pick}
+use Rattle.theory.specs.Unify.{pickDecided}
 use Rattle.theory.specs.Canon.{Least, Mgu, fixed, var-of-var}
 
 module _ (ar : ℕ → ℕ) (s t : List Item) (θ : ℕ → List Item) (m : Mgu ar s t θ) where
   -- θ with another value for z
   unfoldable other : ℕ → List Item → ℕ → List Item
-  other z u y = pick (ℕ-discrete z y) u (θ y)
+  other z u y = pickDecided (ℕ-discrete z y) u (θ y)
 
   other-same : (z : ℕ) (u : List Item) → other z u z ≡ u
   unfolding other
   other-same z u = go (ℕ-discrete z z)
     where
-      go : (d : Dec (z ≡ z)) → pick d u (θ z) ≡ u
+      go : (d : Dec (z ≡ z)) → pickDecided d u (θ z) ≡ u
       go (yes e) = refl
       go (no n) = absurd (n refl)
 
@@ -30,7 +30,7 @@ module _ (ar : ℕ → ℕ) (s t : List Item) (θ : ℕ → List Item) (m : Mgu 
   unfolding other
   other-else z u y n = go (ℕ-discrete z y)
     where
-      go : (d : Dec (z ≡ y)) → pick d u (θ y) ≡ θ y
+      go : (d : Dec (z ≡ y)) → pickDecided d u (θ y) ≡ θ y
       go (yes e) = absurd (n e)
       go (no f) = refl
 
@@ -38,7 +38,7 @@ module _ (ar : ℕ → ℕ) (s t : List Item) (θ : ℕ → List Item) (m : Mgu 
   unfolding other
   other-sub z u p y = go (ℕ-discrete z y)
     where
-      go : (d : Dec (z ≡ y)) → Terms ar 1 (pick d u (θ y))
+      go : (d : Dec (z ≡ y)) → Terms ar 1 (pickDecided d u (θ y))
       go (yes e) = p
       go (no n) = m .sub y
 

@@ -15,7 +15,7 @@ use Rattle.laws.specs.Choice.{pick}
 use Rattle.theory.specs.Flat.{Item, sy, va, Terms}
 use Rattle.theory.specs.Cut.{first, rest}
 use Rattle.theory.specs.Items.{item16, items16}
-use Rattle.theory.specs.Nodes.{args, args-none, Next, Begins, begins-length}
+use Rattle.theory.specs.Nodes.{args, args-none, NextNode, Begins, begins-length}
 use Rattle.laws.specs.Sizes.{variableBase}
 use Rattle.terms.specs.Terms.{arity}
 
@@ -96,7 +96,7 @@ module _ (sig : List ℕ) where
     rest-none [] = refl
     rest-none (i ∷ l) = refl
 
-    pub walk-end : (p o i : ℕ) → o ≡ 0 → Walk p o i → Next ar P p i
+    pub walk-end : (p o i : ℕ) → o ≡ 0 → Walk p o i → NextNode ar P p i
     walk-end p o i e w = sym (rest-none (drop i P)) ∙ ap (λ (x : ℕ). rest ar x (drop i P)) (sym e) ∙ w .rests
 
     pub args-turn : (o i : ℕ) → o ≢ 0 → i < length pool → args ar P o i ≡ item16 (getD pool i 0) ∷ args ar P (o - 1 + extra sig (getD pool i 0)) (i + 1)

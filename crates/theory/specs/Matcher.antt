@@ -11,9 +11,10 @@ use native.Mathlib.Omega.{arith}
 use Rattle.laws.specs.Choice.{pick as cut}
 use Rattle.theory.specs.Flat.{Item, sy, va, Terms}
 use Rattle.theory.specs.Subst.{vars, app, app-agree, Sub}
-use Rattle.theory.specs.Unify.{pick, Bind, _:=_, Unbound, Has}
+use Rattle.theory.specs.Unify.{pickDecided, Bind, _:=_, Unbound, Has}
 use Rattle.theory.specs.Cut.{first, rest, first-rest, first-terms, rest-terms}
-use Rattle.theory.specs.Match.{once, Agrees, Inv, start, step-symbol, step-new, step-old, none-symbol, none-differs, once-sub, found}
+use Rattle.theory.specs.Match.{once, Agrees, MatchInv, start, step-symbol, step-new, step-old, none-symbol}
+use Rattle.theory.specs.Match.{none-differs, once-sub, found}
 use Rattle.theory.specs.Relations.{Turns, Renames, Decided, decided-yes, decided-no}
 use Rattle.theory.specs.Solver.{once-cases, terms?}
 
@@ -45,15 +46,15 @@ items? (i ∷ l) (j ∷ m) = go (item? i j) (items? l m)
 
 module _ (ar : ℕ → ℕ) (s t : List Item) where
   pub data Matched : Type 0 where
-    hit : (B : List Bind) → Inv ar s t B 0 [] [] → Matched
+    hit : (B : List Bind) → MatchInv ar s t B 0 [] [] → Matched
     miss : ((σ : ℕ → List Item) → Sub ar σ → app σ s ≡ t → ⊥) → Matched
 
   -- what follows from the first term of the target, u, standing against the variable x
-  abbrev Next : List Item → Type 0
-  Next l = (B : List Bind) (k : ℕ) (m : List Item) → Inv ar s t B k l m → Matched
+  abbrev NextMatched : List Item → Type 0
+  NextMatched l = (B : List Bind) (k : ℕ) (m : List Item) → MatchInv ar s t B k l m → Matched
 
   unfoldable pub against : (B : List Bind) (k x : ℕ) (u l m : List Item) → Terms ar 1 u → Terms ar k m
-      → Inv ar s t B (suc k) (va x ∷ l) (u ++ m) → Next l
+      → MatchInv ar s t B (suc k) (va x ∷ l) (u ++ m) → NextMatched l
       → Has x (once B x) B ⊎ (Unbound x B × (once B x ≡ vars x)) → Matched
   against B k x u l m p q v ih (inr n) = ih ((x := u) ∷ B) k m (step-new ar s t B k x u l m p q (n .0) v)
   against B k x u l m p q v ih (inl h) = go (items? (once B x) u)
@@ -62,7 +63,7 @@ module _ (ar : ℕ → ℕ) (s t : List Item) where
       go (yes e) = ih B k m (step-old ar s t B k x u l m p q (subst (λ (r : List Item). Has x r B) e h) v)
       go (no n) = miss (none-differs ar s t B k x (once B x) u l m p h n v)
 
-  unfoldable pub matching : (B : List Bind) (k : ℕ) (l m : List Item) → Inv ar s t B k l m → Matched
+  unfoldable pub matching : (B : List Bind) (k : ℕ) (l m : List Item) → MatchInv ar s t B k l m → Matched
   matching B zero [] [] v = hit B v
   matching B zero [] (j ∷ m) v = absurd (v .right)
   matching B zero (i ∷ l) m v = absurd (v .left)
@@ -72,15 +73,15 @@ module _ (ar : ℕ → ℕ) (s t : List Item) where
       (none-symbol ar s t B (suc k) f l m (va y) (λ e. let z : _≡_ {A = ℕ} 0 1 = cc in omega arith) v)
   matching B (suc k) (sy f ∷ l) (sy g ∷ m) v = go (ℕ-discrete g f) (λ k′ m′ v′. matching B k′ l m′ v′)
     where
-      go : Dec (g ≡ f) → ((k′ : ℕ) (m′ : List Item) → Inv ar s t B k′ l m′ → Matched) → Matched
+      go : Dec (g ≡ f) → ((k′ : ℕ) (m′ : List Item) → MatchInv ar s t B k′ l m′ → Matched) → Matched
       go (yes e) ih = ih (ar f + k) m
-          (step-symbol ar s t B k f l m (subst (λ (r : ℕ). Inv ar s t B (suc k) (sy f ∷ l) (sy r ∷ m)) e v))
+          (step-symbol ar s t B k f l m (subst (λ (r : ℕ). MatchInv ar s t B (suc k) (sy f ∷ l) (sy r ∷ m)) e v))
       go (no n) ih = miss (none-symbol ar s t B (suc k) f l m (sy g) (λ e. n (cc)) v)
   matching B (suc k) (va x ∷ l) m v =
       let e : 1 + k ≡ suc k = omega arith in
       let r : Terms ar (1 + k) m = rw e (v .right) in
       against B k x (first ar 1 m) l (rest ar 1 m) (first-terms ar 1 k m r) (rest-terms ar 1 k m r)
-      (subst (λ (z : List Item). Inv ar s t B (suc k) (va x ∷ l) z) (sym (first-rest ar 1 m)) v)
+      (subst (λ (z : List Item). MatchInv ar s t B (suc k) (va x ∷ l) z) (sym (first-rest ar 1 m)) v)
       (λ B′ k′ m′ v′. matching B′ k′ l m′ v′) (once-cases B x)
 
 module _ (ar : ℕ → ℕ) where
@@ -98,7 +99,7 @@ module _ (ar : ℕ → ℕ) where
   matcher s t = tried s t (terms? ar 1 s) (terms? ar 1 t)
 
   abbrev Found : List Item → List Item → Option (List Bind) → Type 0
-  Found s t (some B) = Inv ar s t B 0 [] []
+  Found s t (some B) = MatchInv ar s t B 0 [] []
   Found s t none = (σ : ℕ → List Item) → Sub ar σ → app σ s ≡ t → ⊥
 
   matcher-right : (s t : List Item) → Terms ar 1 s → Terms ar 1 t → Found s t (matcher s t)
@@ -157,7 +158,7 @@ module _ (ar : ℕ → ℕ) where
   once-names [] e y = refl
   once-names ((x := u) ∷ B) e y = let r = taken (isName u) (namesOnly B) e in go (ℕ-discrete x y) (r .0) (once-names B (r .1) y)
     where
-      go : (d : Dec (x ≡ y)) → isName u ≡ true → isName (once B y) ≡ true → isName (pick d u (once B y)) ≡ true
+      go : (d : Dec (x ≡ y)) → isName u ≡ true → isName (once B y) ≡ true → isName (pickDecided d u (once B y)) ≡ true
       go (yes p) a b = a
       go (no n) a b = b
 

@@ -43,10 +43,10 @@ module _ (ar : ℕ → ℕ) where
     args-none p = first-zero (drop p P)
 
     -- r is where the term at p ends
-    abbrev pub Next : ℕ → ℕ → Type 0
-    Next p r = drop r P ≡ rest ar 1 (drop p P)
+    abbrev pub NextNode : ℕ → ℕ → Type 0
+    NextNode p r = drop r P ≡ rest ar 1 (drop p P)
 
-    pub args-more : (k p r : ℕ) → Next p r → args (k + 1) p ≡ val p ++ args k r
+    pub args-more : (k p r : ℕ) → NextNode p r → args (k + 1) p ≡ val p ++ args k r
     args-more k p r e = let h : k + 1 ≡ 1 + k = omega arith in rw (h, e) (first-add 1 k (drop p P))
 
     pub val-sym : (p f : ℕ) → p < length P → getD P p (sy 0) ≡ sy f → val p ≡ sy f ∷ args (ar f) (p + 1)
@@ -63,7 +63,7 @@ module _ (ar : ℕ → ℕ) where
     pub begins-length : (j p : ℕ) → Begins j p → p ≤ length P → j + p ≤ length P
     begins-length j p h b = omega (arith, term-length ar (j + h .after) (drop p P) (h .terms), length-drop p P)
 
-    pub begins-next : (j p r : ℕ) → Begins (j + 1) p → Next p r → Begins j r
+    pub begins-next : (j p r : ℕ) → Begins (j + 1) p → NextNode p r → Begins j r
     begins-next j p r h e = let k : j + 1 + h .after ≡ 1 + (j + h .after) = omega arith in
         record { after = h .after; terms = rw e (rest-terms ar 1 (j + h .after) (drop p P) (rw k at (h .terms))) }
 

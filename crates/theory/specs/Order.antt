@@ -8,7 +8,8 @@ use native.Mathlib.Omega.{arith}
 use lib.ListN.{length, length-append}
 use Rattle.theory.specs.Flat.{Item}
 use Rattle.theory.specs.Subst.{app, Occurs, in?, in-app-of}
-use Rattle.theory.specs.Unify.{Bind, _:=_, full, Good, Unbound, unbound, solved, Has, solves-has, not-both}
+use Rattle.theory.specs.Unify.{Bind, _:=_, full, GoodBindings, Unbound, unbound, solved, Has, solves-has}
+use Rattle.theory.specs.Unify.{not-both}
 
 abbrev pub Mem : ℕ → List ℕ → Type 0
 Mem x [] = ⊥
@@ -69,18 +70,18 @@ lose-mem x θ z (y ∷ O) m i = go (in? x (θ y)) m (λ n. lose-mem x θ z O n i
     go (no f) (inr n) h = inr (h n)
 
 -- each bound variable of l is in O
-abbrev pub Below : List Bind → List Item → List ℕ → Type 0
-Below B l O = (z : ℕ) → Occurs z l → (v : List Item) → Has z v B → Mem z O
+abbrev pub BoundIn : List Bind → List Item → List ℕ → Type 0
+BoundIn B l O = (z : ℕ) → Occurs z l → (v : List Item) → Has z v B → Mem z O
 
 abbrev pub Topo : List Bind → List ℕ → Type 0
 Topo B [] = Unit {0}
-Topo B (y ∷ O) = ((u : List Item) → Has y u B → Below B u O) × Topo B O
+Topo B (y ∷ O) = ((u : List Item) → Has y u B → BoundIn B u O) × Topo B O
 
-abbrev pub order : List Bind → List ℕ
-order [] = []
-order ((x := t) ∷ B) = keep x (full B) (order B) ++ x ∷ lose x (full B) (order B)
+abbrev pub bindingOrder : List Bind → List ℕ
+bindingOrder [] = []
+bindingOrder ((x := t) ∷ B) = keep x (full B) (bindingOrder B) ++ x ∷ lose x (full B) (bindingOrder B)
 
-module _ (B : List Bind) (g : Good B) (x : ℕ) (t : List Item) (n : Unbound x B) (c : ¬ Occurs x (app (full B) t)) where
+module _ (B : List Bind) (g : GoodBindings B) (x : ℕ) (t : List Item) (n : Unbound x B) (c : ¬ Occurs x (app (full B) t)) where
   -- θ x is x
   at-x : Occurs x (full B x)
   at-x = rw (unbound x B n) (inl refl)
@@ -97,7 +98,7 @@ module _ (B : List Bind) (g : Good B) (x : ℕ) (t : List Item) (n : Unbound x B
       go (yes a) r = r
       go (no f) r = (at, r)
         where
-          at : (u : List Item) → Has y u ((x := t) ∷ B) → Below ((x := t) ∷ B) u (lose x (full B) O)
+          at : (u : List Item) → Has y u ((x := t) ∷ B) → BoundIn ((x := t) ∷ B) u (lose x (full B) O)
           at u (inl e) z i v k = absurd (f (rw (e .0) at-x))
           at u (inr h) z i v (inl e) = absurd (f (up y z u h i (rw (e .0) at-x)))
           at u (inr h) z i v (inr k) = lose-mem x (full B) z O (p .0 u h z i v k) (λ j. f (up y z u h i j))
@@ -114,7 +115,7 @@ module _ (B : List Bind) (g : Good B) (x : ℕ) (t : List Item) (n : Unbound x B
           side z k (yes j) = mem-left z (keep x (full B) O) T (keep-mem x (full B) z O k j)
           side z k (no j) = mem-right z (keep x (full B) O) T (s z (inr k) j)
 
-          at : (u : List Item) → Has y u ((x := t) ∷ B) → Below ((x := t) ∷ B) u (keep x (full B) O ++ T)
+          at : (u : List Item) → Has y u ((x := t) ∷ B) → BoundIn ((x := t) ∷ B) u (keep x (full B) O ++ T)
           at u h z i v (inl e) = mem-right z (keep x (full B) O) T (rw (e .0) m)
           at u (inr h) z i v (inr k) = side z (p .0 u h z i v k) (in? x (full B z))
           at u (inl e) z i v (inr k) = let w = b y (inl refl) in absurd (not-both y (w .0) B (rw (e .0) n) (w .1))
@@ -147,43 +148,43 @@ mem-append x (y ∷ O) T (inr h) = go (mem-append x O T h)
     go (inr b) = inr b
 
 -- the order has as many variables as there are bindings, just the bound ones, each above what its value mentions
-pub order-length : (B : List Bind) → length (order B) ≡ length B
+pub order-length : (B : List Bind) → length (bindingOrder B) ≡ length B
 order-length [] = refl
-order-length ((x := t) ∷ B) = simp length-append (omega (arith, keep-lose x (full B) (order B), order-length B))
+order-length ((x := t) ∷ B) = simp length-append (omega (arith, keep-lose x (full B) (bindingOrder B), order-length B))
 
-pub order-bound : (B : List Bind) (z : ℕ) → Mem z (order B) → (u : List Item) × Has z u B
+pub order-bound : (B : List Bind) (z : ℕ) → Mem z (bindingOrder B) → (u : List Item) × Has z u B
 order-bound [] z m = absurd m
-order-bound ((x := t) ∷ B) z m = go (order-bound B z) (mem-append z (keep x (full B) (order B)) (x ∷ lose x (full B) (order B)) m)
+order-bound ((x := t) ∷ B) z m = go (order-bound B z) (mem-append z (keep x (full B) (bindingOrder B)) (x ∷ lose x (full B) (bindingOrder B)) m)
   where
     old : ((u : List Item) × Has z u B) → (u : List Item) × Has z u ((x := t) ∷ B)
     old h = (h .0, inr (h .1))
 
-    go : (Mem z (order B) → (u : List Item) × Has z u B) → Mem z (keep x (full B) (order B)) ⊎ ((z ≡ x) ⊎ Mem z (lose x (full B) (order B))) → (u : List Item) × Has z u ((x := t) ∷ B)
-    go ih (inl k) = old (ih (keep-sub x (full B) z (order B) k))
+    go : (Mem z (bindingOrder B) → (u : List Item) × Has z u B) → Mem z (keep x (full B) (bindingOrder B)) ⊎ ((z ≡ x) ⊎ Mem z (lose x (full B) (bindingOrder B))) → (u : List Item) × Has z u ((x := t) ∷ B)
+    go ih (inl k) = old (ih (keep-sub x (full B) z (bindingOrder B) k))
     go ih (inr (inl e)) = (t, inl (e, refl))
-    go ih (inr (inr k)) = old (ih (lose-sub x (full B) z (order B) k))
+    go ih (inr (inr k)) = old (ih (lose-sub x (full B) z (bindingOrder B) k))
 
-pub order-all : (B : List Bind) (z : ℕ) (u : List Item) → Has z u B → Mem z (order B)
+pub order-all : (B : List Bind) (z : ℕ) (u : List Item) → Has z u B → Mem z (bindingOrder B)
 order-all [] z u h = h
-order-all ((x := t) ∷ B) z u (inl e) = mem-right z (keep x (full B) (order B)) (x ∷ lose x (full B) (order B)) (inl (e .0))
+order-all ((x := t) ∷ B) z u (inl e) = mem-right z (keep x (full B) (bindingOrder B)) (x ∷ lose x (full B) (bindingOrder B)) (inl (e .0))
 order-all ((x := t) ∷ B) z u (inr h) = go (order-all B z u h) (in? x (full B z))
   where
-    go : Mem z (order B) → Dec (Occurs x (full B z)) → Mem z (order ((x := t) ∷ B))
-    go m (yes j) = mem-left z (keep x (full B) (order B)) (x ∷ lose x (full B) (order B)) (keep-mem x (full B) z (order B) m j)
-    go m (no j) = mem-right z (keep x (full B) (order B)) (x ∷ lose x (full B) (order B)) (inr (lose-mem x (full B) z (order B) m j))
+    go : Mem z (bindingOrder B) → Dec (Occurs x (full B z)) → Mem z (bindingOrder ((x := t) ∷ B))
+    go m (yes j) = mem-left z (keep x (full B) (bindingOrder B)) (x ∷ lose x (full B) (bindingOrder B)) (keep-mem x (full B) z (bindingOrder B) m j)
+    go m (no j) = mem-right z (keep x (full B) (bindingOrder B)) (x ∷ lose x (full B) (bindingOrder B)) (inr (lose-mem x (full B) z (bindingOrder B) m j))
 
-pub order-topo : (B : List Bind) → Good B → Topo B (order B)
+pub order-topo : (B : List Bind) → GoodBindings B → Topo B (bindingOrder B)
 order-topo [] g = tt
 order-topo ((x := t) ∷ B) g =
-    keep-topo B (g .2) x t (g .0) (g .1) (order B) (x ∷ lose x (full B) (order B)) (order-bound B) (inl refl)
-    (λ z m j. inr (lose-mem x (full B) z (order B) m j))
-    (last, lose-topo B (g .2) x t (g .0) (g .1) (order B) (order-topo B (g .2)))
+    keep-topo B (g .2) x t (g .0) (g .1) (bindingOrder B) (x ∷ lose x (full B) (bindingOrder B)) (order-bound B) (inl refl)
+    (λ z m j. inr (lose-mem x (full B) z (bindingOrder B) m j))
+    (last, lose-topo B (g .2) x t (g .0) (g .1) (bindingOrder B) (order-topo B (g .2)))
     (order-topo B (g .2))
   where
-    last : (u : List Item) → Has x u ((x := t) ∷ B) → Below ((x := t) ∷ B) u (lose x (full B) (order B))
+    last : (u : List Item) → Has x u ((x := t) ∷ B) → BoundIn ((x := t) ∷ B) u (lose x (full B) (bindingOrder B))
     last u (inr h) z i v k = absurd (not-both x u B (g .0) h)
     last u (inl e) z i v (inl d) = absurd (g .1 (in-app-of (full B) x z t (rw (e .1) at i) (rw (d .0, unbound x B (g .0)) (inl refl))))
-    last u (inl e) z i v (inr k) = lose-mem x (full B) z (order B) (order-all B z v k) (λ j. g .1 (in-app-of (full B) x z t (rw (e .1) at i) j))
+    last u (inl e) z i v (inr k) = lose-mem x (full B) z (bindingOrder B) (order-all B z v k) (λ j. g .1 (in-app-of (full B) x z t (rw (e .1) at i) j))
 
 -- following the bindings from l ends within d levels
 abbrev pub FollowingEnds : List Bind → ℕ → List Item → Type 0
@@ -191,15 +192,15 @@ FollowingEnds B zero l = (y : ℕ) → Occurs y l → (u : List Item) → Has y 
 FollowingEnds B (suc d) l = (y : ℕ) → Occurs y l → (u : List Item) → Has y u B → FollowingEnds B d u
 
 topo-ends-go : (B : List Bind) (d y : ℕ) (u : List Item) → Has y u B → (O : List ℕ) → Topo B O → length O ≤ suc d → Mem y O
-    → ((O : List ℕ) → Topo B O → length O ≤ d → (l : List Item) → Below B l O → FollowingEnds B d l) → FollowingEnds B d u
+    → ((O : List ℕ) → Topo B O → length O ≤ d → (l : List Item) → BoundIn B l O → FollowingEnds B d l) → FollowingEnds B d u
 topo-ends-go B d y u k [] p b m ih = absurd m
 topo-ends-go B d y u k (z ∷ O) p b (inl e) ih = ih O (p .1) (omega arith) u (p .0 u (rw e at k))
 topo-ends-go B d y u k (z ∷ O) p b (inr m) ih = topo-ends-go B d y u k O (p .1) (omega arith) m ih
 
-pub topo-ends : (B : List Bind) (d : ℕ) (O : List ℕ) → Topo B O → length O ≤ d → (l : List Item) → Below B l O → FollowingEnds B d l
+pub topo-ends : (B : List Bind) (d : ℕ) (O : List ℕ) → Topo B O → length O ≤ d → (l : List Item) → BoundIn B l O → FollowingEnds B d l
 topo-ends B zero [] p b l h = h
 topo-ends B zero (y ∷ O) p b l h = absurd (omega arith)
 topo-ends B (suc d) O p b l h = λ y i u k. topo-ends-go B d y u k O p b (h y i u k) (topo-ends B d)
 
-pub ends : (B : List Bind) → Good B → (l : List Item) → FollowingEnds B (length B) l
-ends B g l = topo-ends B (length B) (order B) (order-topo B g) (omega (arith, order-length B)) l (λ z i v k. order-all B z v k)
+pub ends : (B : List Bind) → GoodBindings B → (l : List Item) → FollowingEnds B (length B) l
+ends B g l = topo-ends B (length B) (bindingOrder B) (order-topo B g) (omega (arith, order-length B)) l (λ z i v k. order-all B z v k)

@@ -8,7 +8,8 @@ use native.Mathlib.Omega.{arith}
 use lib.ListN.{length}
 use Rattle.theory.specs.Flat.{Item, sy, va, Terms, terms-append, readable}
 use Rattle.theory.specs.Subst.{vars, app, app-append, Occurs, Sub, app-terms}
-use Rattle.theory.specs.Unify.{Bind, _:=_, full, Solves, Good, Unbound, Values, full-sub, solved, absorbs, circular, Has, solves-has}
+use Rattle.theory.specs.Unify.{Bind, _:=_, full, Solves, GoodBindings, Unbound, Values, full-sub, solved, absorbs}
+use Rattle.theory.specs.Unify.{circular, Has, solves-has}
 use Rattle.theory.specs.Canon.{Least, Mgu, least-step}
 
 module _ (ar : ℕ → ℕ) (σ : ℕ → List Item) (w : Sub ar σ) where
@@ -33,15 +34,15 @@ module _ (ar : ℕ → ℕ) (σ : ℕ → List Item) (w : Sub ar σ) where
 
 module _ (ar : ℕ → ℕ) where
   -- B the bindings made so far; l and m, k terms each, are still to be made the same
-  pub record Inv (s t : List Item) (B : List Bind) (k : ℕ) (l m : List Item) : Type 0 where
-    pub good : Good B
+  pub record RobinsonInv (s t : List Item) (B : List Bind) (k : ℕ) (l m : List Item) : Type 0 where
+    pub good : GoodBindings B
     pub values : Values ar B
     pub least : Least (full B)
     pub left : Terms ar k l
     pub right : Terms ar k m
     pub same : (σ : ℕ → List Item) → Sub ar σ → (app σ s ≡ app σ t) ↔ (Solves σ B × (app σ l ≡ app σ m))
 
-  pub start : (s t : List Item) → Terms ar 1 s → Terms ar 1 t → Inv s t [] 1 s t
+  pub start : (s t : List Item) → Terms ar 1 s → Terms ar 1 t → RobinsonInv s t [] 1 s t
   start s t p q = record {
     good = tt;
     values = tt;
@@ -53,8 +54,8 @@ module _ (ar : ℕ → ℕ) where
 
   module _ (s t : List Item) (B : List Bind) where
     -- the pending pair is replaced by one that the same solvers make equal
-    turn : (k j : ℕ) (l m l′ m′ : List Item) → Inv s t B k l m → Terms ar j l′ → Terms ar j m′
-        → ((σ : ℕ → List Item) → Sub ar σ → Solves σ B → (app σ l ≡ app σ m) ↔ (app σ l′ ≡ app σ m′)) → Inv s t B j l′ m′
+    turn : (k j : ℕ) (l m l′ m′ : List Item) → RobinsonInv s t B k l m → Terms ar j l′ → Terms ar j m′
+        → ((σ : ℕ → List Item) → Sub ar σ → Solves σ B → (app σ l ≡ app σ m) ↔ (app σ l′ ≡ app σ m′)) → RobinsonInv s t B j l′ m′
     turn k j l m l′ m′ v p q h = record {
       good = v .good;
       values = v .values;
@@ -67,22 +68,22 @@ module _ (ar : ℕ → ℕ) where
       );
     }
 
-    pub step-symbol : (k f : ℕ) (l m : List Item) → Inv s t B (suc k) (sy f ∷ l) (sy f ∷ m) → Inv s t B (ar f + k) l m
+    pub step-symbol : (k f : ℕ) (l m : List Item) → RobinsonInv s t B (suc k) (sy f ∷ l) (sy f ∷ m) → RobinsonInv s t B (ar f + k) l m
     step-symbol k f l m v = turn (suc k) (ar f + k) (sy f ∷ l) (sy f ∷ m) l m v (v .left) (v .right) (λ σ w z. decompose ar σ w f l m)
 
-    pub step-same : (k x : ℕ) (l m : List Item) → Inv s t B (suc k) (va x ∷ l) (va x ∷ m) → Inv s t B k l m
+    pub step-same : (k x : ℕ) (l m : List Item) → RobinsonInv s t B (suc k) (va x ∷ l) (va x ∷ m) → RobinsonInv s t B k l m
     step-same k x l m v = turn (suc k) k (va x ∷ l) (va x ∷ m) l m v (v .left) (v .right) (λ σ w z. same-var ar σ w x l m)
 
-    pub step-swap : (k : ℕ) (l m : List Item) → Inv s t B k l m → Inv s t B k m l
+    pub step-swap : (k : ℕ) (l m : List Item) → RobinsonInv s t B k l m → RobinsonInv s t B k m l
     step-swap k l m v = turn k k l m m l v (v .right) (v .left) (λ σ w z. ((λ e. sym e), (λ e. sym e)))
 
-    pub step-follow : (k x : ℕ) (u l m : List Item) → Has x u B → Terms ar 1 u → Inv s t B (suc k) (va x ∷ l) m → Inv s t B (suc k) (u ++ l) m
+    pub step-follow : (k x : ℕ) (u l m : List Item) → Has x u B → Terms ar 1 u → RobinsonInv s t B (suc k) (va x ∷ l) m → RobinsonInv s t B (suc k) (u ++ l) m
     step-follow k x u l m h p v = turn (suc k) (suc k) (va x ∷ l) m (u ++ l) m v
         (let e : 1 + k ≡ suc k = omega arith in rw e at (terms-append ar 1 k u l p (v .left))) (v .right)
         (λ σ w z. let e = follow ar σ w x u l (solves-has σ x u B h z) in ((λ d. sym e ∙ d), (λ d. e ∙ d)))
 
     pub step-bind : (k x : ℕ) (u l m : List Item) → Terms ar 1 u → Terms ar k m → Unbound x B → ¬ Occurs x (app (full B) u)
-        → ((y : ℕ) → app (full B) u ≡ vars y → y ≤ x) → Inv s t B (suc k) (va x ∷ l) (u ++ m) → Inv s t ((x := u) ∷ B) k l m
+        → ((y : ℕ) → app (full B) u ≡ vars y → y ≤ x) → RobinsonInv s t B (suc k) (va x ∷ l) (u ++ m) → RobinsonInv s t ((x := u) ∷ B) k l m
     step-bind k x u l m p q a n c v = record {
       good = (a, n, v .good);
       values = (p, v .values);
@@ -99,14 +100,14 @@ module _ (ar : ℕ → ℕ) where
         w₀ = full-sub ar B (v .values)
 
     -- the ends
-    pub found : (l : List Item) → Inv s t B 0 l l → Mgu ar s t (full B)
+    pub found : (l : List Item) → RobinsonInv s t B 0 l l → Mgu ar s t (full B)
     found l v = record {
       sub = full-sub ar B (v .values);
       unifies = v .same (full B) (full-sub ar B (v .values)) .1 (solved B (v .good), refl);
       general = λ σ w e x. absorbs σ B (v .same σ w .0 e .0) x;
     }
 
-    pub none-clash : (k f g : ℕ) (l m : List Item) → f ≢ g → Inv s t B k (sy f ∷ l) (sy g ∷ m) → (σ : ℕ → List Item) → Sub ar σ → app σ s ≡ app σ t → ⊥
+    pub none-clash : (k f g : ℕ) (l m : List Item) → f ≢ g → RobinsonInv s t B k (sy f ∷ l) (sy g ∷ m) → (σ : ℕ → List Item) → Sub ar σ → app σ s ≡ app σ t → ⊥
     none-clash k f g l m h v σ w e = clash ar σ w f g l m h (v .same σ w .0 e .1)
 
     in-length₁ : (x : ℕ) (l : List Item) → Occurs x l → 1 ≤ length l
@@ -114,7 +115,7 @@ module _ (ar : ℕ → ℕ) where
     in-length₁ x (a ∷ l) i = omega arith
 
     pub none-circular : (k x f : ℕ) (u l m : List Item) → Terms ar 1 (sy f ∷ u) → Occurs x (app (full B) u)
-        → Inv s t B (suc k) (va x ∷ l) (sy f ∷ u ++ m) → (σ : ℕ → List Item) → Sub ar σ → app σ s ≡ app σ t → ⊥
+        → RobinsonInv s t B (suc k) (va x ∷ l) (sy f ∷ u ++ m) → (σ : ℕ → List Item) → Sub ar σ → app σ s ≡ app σ t → ⊥
     none-circular k x f u l m p i v σ w e =
         let d = v .same σ w .0 e in
         let b = bind ar σ w x (sy f ∷ u) l m p .0 (d .1) in

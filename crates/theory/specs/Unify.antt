@@ -9,19 +9,19 @@ use lib.ListN.{length}
 use Rattle.theory.specs.Flat.{Item, Terms}
 use Rattle.theory.specs.Subst.{vars, app, app-vars, app-app, Occurs, app-agree, Sub, app-terms, occurs}
 
-abbrev pub pick : {A B : Type 0} → Dec A → B → B → B
-pick (yes a) u v = u
-pick (no f) u v = v
+abbrev pub pickDecided : {A B : Type 0} → Dec A → B → B → B
+pickDecided (yes a) u v = u
+pickDecided (no f) u v = v
 
 -- x becomes u, every other variable stays
 unfoldable pub one : ℕ → List Item → ℕ → List Item
-one x u y = pick (ℕ-discrete x y) u (vars y)
+one x u y = pickDecided (ℕ-discrete x y) u (vars y)
 
 pub one-same : (x : ℕ) (u : List Item) → one x u x ≡ u
 unfolding one
 one-same x u = go (ℕ-discrete x x)
   where
-    go : (d : Dec (x ≡ x)) → pick d u (vars x) ≡ u
+    go : (d : Dec (x ≡ x)) → pickDecided d u (vars x) ≡ u
     go (yes e) = refl
     go (no f) = absurd (f refl)
 
@@ -29,7 +29,7 @@ pub one-other : (x : ℕ) (u : List Item) (y : ℕ) → x ≢ y → one x u y �
 unfolding one
 one-other x u y h = go (ℕ-discrete x y)
   where
-    go : (d : Dec (x ≡ y)) → pick d u (vars y) ≡ vars y
+    go : (d : Dec (x ≡ y)) → pickDecided d u (vars y) ≡ vars y
     go (yes e) = absurd (h e)
     go (no f) = refl
 
@@ -61,9 +61,9 @@ unbound y [] u = refl
 unbound y ((x := t) ∷ B) u = rw (unbound y B (u .1)) (append-nil _ ∙ one-other x (app (full B) t) y (u .0))
 
 -- each binding was made of a variable with no value, that does not stand in its value
-abbrev pub Good : List Bind → Type 0
-Good [] = Unit {0}
-Good ((x := t) ∷ B) = Unbound x B × (¬ Occurs x (app (full B) t)) × Good B
+abbrev pub GoodBindings : List Bind → Type 0
+GoodBindings [] = Unit {0}
+GoodBindings ((x := t) ∷ B) = Unbound x B × (¬ Occurs x (app (full B) t)) × GoodBindings B
 
 -- A. σ after the bindings is σ
 -- one binding more: if σ after θ is σ, and σ x is app σ t, then σ after (x := θ t) after θ is σ
@@ -91,7 +91,7 @@ solves-after : (ρ θ : ℕ → List Item) (B : List Bind) → Solves θ B → S
 solves-after ρ θ [] s = tt
 solves-after ρ θ ((x := t) ∷ B) s = (ap (app ρ) (s .0) ∙ app-app ρ θ t, solves-after ρ θ B (s .1))
 
-pub solved : (B : List Bind) → Good B → Solves (full B) B
+pub solved : (B : List Bind) → GoodBindings B → Solves (full B) B
 solved [] g = tt
 solved ((x := t) ∷ B) g = (here, solves-after (one x (app (full B) t)) (full B) B (solved B (g .2)))
   where
@@ -99,7 +99,7 @@ solved ((x := t) ∷ B) g = (here, solves-after (one x (app (full B) t)) (full B
     here = rw (unbound x B (g .0)) (append-nil _ ∙ one-same x (app (full B) t) ∙ sym (app-one-free x (app (full B) t) (app (full B) t) (g .1)) ∙ app-app (one x (app (full B) t)) (full B) t)
 
 -- C. idempotent
-pub idempotent : (B : List Bind) → Good B → (y : ℕ) → app (full B) (full B y) ≡ full B y
+pub idempotent : (B : List Bind) → GoodBindings B → (y : ℕ) → app (full B) (full B y) ≡ full B y
 idempotent B g = absorbs (full B) B (solved B g)
 
 -- a binding of B

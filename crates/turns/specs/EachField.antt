@@ -16,9 +16,13 @@ use Rattle.library.specs.Store.{Store, openWith, answered}
 use Rattle.log.specs.Reading.{fieldsOf, fieldOr}
 use Rattle.log.specs.declared.field.Field.{Field}
 use Rattle.log.specs.declared.field.Field.the-variants.{End, Cut, Whole}
-use Rattle.tasks.specs.Operations.{Operation, toOpen, toInsert, toDelete, toRetrieve, toSolve, firstOperation, payload, operationIn}
-use Rattle.turns.specs.Printed.{libraryCall, Line, answer, log, moved, lineThen, laterLines, unlessRefused, unopened, firstLines, linesOf}
-use Rattle.turns.specs.LogApplies.{Faulty, RefusedSignature, SignatureRefused, LogApplies, AllLie, fields-lie, Verdict, later-verdict, SomeFaulty, faulty-here, faulty-there, Stops, FirstVerdict, first-verdict, FaultyIn, Ending, lines-ending, not-nothing}
+use Rattle.tasks.specs.Operations.{Operation, toOpen, toInsert, toDelete, toRetrieve, toSolve, firstOperation, payload}
+use Rattle.tasks.specs.Operations.{operationIn}
+use Rattle.turns.specs.Printed.{libraryCall, Line, answer, log, storeAfter, lineThen, laterLines, unlessRefused}
+use Rattle.turns.specs.Printed.{unopened, firstLines, linesOf}
+use Rattle.turns.specs.LogApplies.{Faulty, RefusedSignature, SignatureRefused, LogApplies, AllLie, fields-lie}
+use Rattle.turns.specs.LogApplies.{Verdict, later-verdict, SomeFaulty, faulty-here, faulty-there, Stops}
+use Rattle.turns.specs.LogApplies.{FirstVerdict, first-verdict, FaultyIn, Ending, lines-ending, not-nothing}
 
 -- an input that is not too long
 lines-short : (s : List ℕ) → length s ≤ inputLimit → linesOf s ≡ firstLines s (fieldsOf s)
@@ -35,9 +39,9 @@ later-each s st (f ∷ fs) h n =
     (λ st′. later-each s st′ fs (h .1) (λ x. n (faulty-there f fs x)))
   where
     go : (o : Option Operation) → Verdict 1 f o → ((st′ : Store) → length (laterLines s st′ fs) ≡ length fs)
-        → length (lineThen st o (laterLines s (moved st o) fs)) ≡ suc (length fs)
+        → length (lineThen st o (laterLines s (storeAfter st o) fs)) ≡ suc (length fs)
     go none w ih = absurd (n (faulty-here f fs w))
-    go (some c) w ih = ap suc (ih (moved st (some c)))
+    go (some c) w ih = ap suc (ih (storeAfter st (some c)))
 
 first-each : (s : List ℕ) (fs : List Field) → AllLie s fs → (FaultyIn s fs → ⊥)
     → (RefusedSignature s (fieldOr fs 0) → ⊥) → length (firstLines s fs) ≡ length fs
@@ -46,14 +50,14 @@ first-each s [] h n r = refl
 first-each s (f ∷ fs) h n r = go (operationIn true s f) (first-verdict s f (h .0))
   where
     go : (o : Option Operation) → FirstVerdict s f o
-        → length (lineThen unopened o (unlessRefused unopened o (laterLines s (moved unopened o) fs))) ≡ suc (length fs)
+        → length (lineThen unopened o (unlessRefused unopened o (laterLines s (storeAfter unopened o) fs))) ≡ suc (length fs)
     go none w = absurd (n (0, w, r))
     go (some c) w = ap suc (answering (answered unopened (libraryCall answerRoom c)) (w .1))
       where
         answering : (a : Answer) → (Stops a ↔ RefusedSignature s f)
-            → length (unless a [] (laterLines s (moved unopened (some c)) fs)) ≡ length fs
+            → length (unless a [] (laterLines s (storeAfter unopened (some c)) fs)) ≡ length fs
         answering (refused m) k = absurd (r (k .0 tt))
-        answering (done x y w) k = later-each s (moved unopened (some c)) fs (h .1) (λ z. n (suc (z .0), z .1, r))
+        answering (done x y w) k = later-each s (storeAfter unopened (some c)) fs (h .1) (λ z. n (suc (z .0), z .1, r))
 
 -- 'each prints one line', where LOG does not apply and the signature is taken
 pub line-each : (s : List ℕ) → (LogApplies s → ⊥) → (SignatureRefused s → ⊥)
@@ -85,36 +89,36 @@ pub refused-alone : (s : List ℕ) → length s ≤ inputLimit → SignatureRefu
 refused-alone s h r = rw (lines-short s h) (signature-alone s (fieldsOf s) r)
 
 -- WHICH LINE LOG IS: an answer is the line of a field that is not faulty, LOG that of a faulty one
-abbrev Placed : ℕ → List Field → List Line → Type 0
-Placed i fs [] = Unit {0}
-Placed i fs (answer c a ∷ l) = (Faulty i (fieldOr fs 0) → ⊥) × Placed (suc i) (drop 1 fs) l
-Placed i fs (log ∷ l) = Faulty i (fieldOr fs 0)
+abbrev LinesPlaced : ℕ → List Field → List Line → Type 0
+LinesPlaced i fs [] = Unit {0}
+LinesPlaced i fs (answer c a ∷ l) = (Faulty i (fieldOr fs 0) → ⊥) × LinesPlaced (suc i) (drop 1 fs) l
+LinesPlaced i fs (log ∷ l) = Faulty i (fieldOr fs 0)
 
 later-placed : (i : ℕ) (s : List ℕ) (st : Store) (fs : List Field) → AllLie s fs
-    → Placed (suc i) fs (laterLines s st fs)
+    → LinesPlaced (suc i) fs (laterLines s st fs)
 unfolding laterLines fieldOr
 later-placed i s st [] h = tt
 later-placed i s st (f ∷ fs) h =
     go (operationIn false s f) (later-verdict i s f (h .0)) (λ st′. later-placed (suc i) s st′ fs (h .1))
   where
-    go : (o : Option Operation) → Verdict (suc i) f o → ((st′ : Store) → Placed (suc (suc i)) fs (laterLines s st′ fs))
-        → Placed (suc i) (f ∷ fs) (lineThen st o (laterLines s (moved st o) fs))
+    go : (o : Option Operation) → Verdict (suc i) f o → ((st′ : Store) → LinesPlaced (suc (suc i)) fs (laterLines s st′ fs))
+        → LinesPlaced (suc i) (f ∷ fs) (lineThen st o (laterLines s (storeAfter st o) fs))
     go none w ih = w
-    go (some c) w ih = (w, ih (moved st (some c)))
+    go (some c) w ih = (w, ih (storeAfter st (some c)))
 
-first-placed : (s : List ℕ) (fs : List Field) → AllLie s fs → Placed 0 fs (firstLines s fs)
+first-placed : (s : List ℕ) (fs : List Field) → AllLie s fs → LinesPlaced 0 fs (firstLines s fs)
 unfolding firstLines fieldOr
 first-placed s [] h = tt
 first-placed s (f ∷ fs) h = go (operationIn true s f) (first-verdict s f (h .0))
   where
     go : (o : Option Operation) → FirstVerdict s f o
-        → Placed 0 (f ∷ fs) (lineThen unopened o (unlessRefused unopened o (laterLines s (moved unopened o) fs)))
+        → LinesPlaced 0 (f ∷ fs) (lineThen unopened o (unlessRefused unopened o (laterLines s (storeAfter unopened o) fs)))
     go none w = w
     go (some c) w = (w .0, answering (answered unopened (libraryCall answerRoom c)))
       where
-        answering : (a : Answer) → Placed 1 fs (unless a [] (laterLines s (moved unopened (some c)) fs))
+        answering : (a : Answer) → LinesPlaced 1 fs (unless a [] (laterLines s (storeAfter unopened (some c)) fs))
         answering (refused m) = tt
-        answering (done x y z) = later-placed 0 s (moved unopened (some c)) fs (h .1)
+        answering (done x y z) = later-placed 0 s (storeAfter unopened (some c)) fs (h .1)
 
 next-field : (fs : List Field) (j : ℕ) → fieldOr (drop 1 fs) j ≡ fieldOr fs (suc j)
 unfolding fieldOr
@@ -125,7 +129,7 @@ next-field (f ∷ fs) j = refl
 abbrev FirstFaulty : ℕ → List Field → ℕ → Type 0
 FirstFaulty i fs k = Faulty (i + k) (fieldOr fs k) × ((j : ℕ) → j < k → Faulty (i + j) (fieldOr fs j) → ⊥)
 
-place-of : (l : List Line) (i : ℕ) (fs : List Field) → Ending (l ++ (log ∷ [])) → Placed i fs (l ++ (log ∷ []))
+place-of : (l : List Line) (i : ℕ) (fs : List Field) → Ending (l ++ (log ∷ [])) → LinesPlaced i fs (l ++ (log ∷ []))
     → FirstFaulty i fs (length l)
 place-of [] i fs h p = let e : i + 0 ≡ i = omega arith in (rw e p, λ j b. absurd (omega (arith, b)))
 place-of (log ∷ l) i fs h p = absurd (not-nothing l [] log h)
@@ -146,7 +150,7 @@ pub log-place : (s : List ℕ) (l : List Line) → length s ≤ inputLimit → l
     → Faulty (length l) (fieldOr (fieldsOf s) (length l))
     × ((j : ℕ) → j < length l → Faulty j (fieldOr (fieldsOf s) j) → ⊥)
 log-place s l h e =
-    let placed : Placed 0 (fieldsOf s) (linesOf s) =
+    let placed : LinesPlaced 0 (fieldsOf s) (linesOf s) =
     rw (lines-short s h) (first-placed s (fieldsOf s) (fields-lie s)) in
     let r = place-of l 0 (fieldsOf s) (rw e at (lines-ending s)) (rw e at placed) in
     let z : (k : ℕ) → 0 + k ≡ k = λ k. omega arith in

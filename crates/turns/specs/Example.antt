@@ -9,17 +9,20 @@ use Rattle.slots.specs.Slots.{listed}
 use Rattle.theory.specs.Subst.{in?}
 use Rattle.theory.specs.Unify.{one}
 use Rattle.theory.specs.Items.{codes, moved}
-use Rattle.theory.specs.Solver.{solution, solve, by-free, by-size, step, face, face-var, face-bound, var-symbol, var-var, once-cases, at-bind, at-swap, at-follow, terms?}
+use Rattle.theory.specs.Solver.{solution, solve, by-free, by-size, step, face, face-var, face-bound, var-symbol}
+use Rattle.theory.specs.Solver.{var-var, once-cases, at-bind, at-swap, at-follow, terms?}
 use Rattle.theory.specs.Matcher.{matcher, matching, against, items?, item?}
-use Rattle.definitions.specs.Trees.{forest, firsts, others, top, treeOf, keysOf}
+use Rattle.definitions.specs.Trees.{forest, firsts, argumentsAfter, top, treeOf, keysOf}
 use Rattle.definitions.specs.Candidates.{agree, agreeAll, candidate, isCandidate}
-use Rattle.definitions.specs.Records.{recordOf, countOf, listedFrom, bytes, fieldBytes, written}
+use Rattle.definitions.specs.Records.{recordOf, countOf, listedFrom, bytes, fieldBytes, writtenFields}
 use Rattle.definitions.specs.Decisions.{same?, stands, bindings?}
 use Rattle.definitions.specs.Answers.{longFrom}
-use Rattle.library.specs.Store.{slotsFrom, inUse, freeFrom, put, place?, key?, keysFrom, distinct, candidates, answers, answered, empty, after}
+use Rattle.library.specs.Store.{slotsFrom, inUse, freeFrom, put, place?, key?, keysFrom, distinct, candidates, answers}
+use Rattle.library.specs.Store.{answered, empty, after}
 use Rattle.log.specs.Fields.{fieldAt}
-use Rattle.log.specs.Reading.{before, fieldsWithin, fieldsFrom}
-use Rattle.lines.specs.Lines.{digits, decimal, hex, slotList, recordText, plainLine, refusedLine, slotLine, foundLine, solvedLine}
+use Rattle.log.specs.Reading.{fieldBefore, fieldsWithin, fieldsFrom}
+use Rattle.lines.specs.Lines.{digits, decimal, hex, slotList, recordText, plainLine, refusedLine, slotLine, foundLine}
+use Rattle.lines.specs.Lines.{solvedLine}
 use Rattle.tasks.specs.Operations.{firstOperation, laterOperation}
 use Rattle.turns.specs.Printed.{laterLines, firstLines, linesOf, textOfAll, printed}
 
@@ -72,7 +75,7 @@ output =
     ∷ []
 
 pub example : printed input ≡ output
-unfolding printed textOfAll linesOf firstLines laterLines laterOperation firstOperation fieldsFrom fieldsWithin before fieldAt digits decimal hex slotList recordText plainLine refusedLine slotLine foundLine solvedLine answered empty after put freeFrom inUse keysFrom distinct place? key? candidates answers slotsFrom longFrom listed sigRefusal aritiesGood refusal numbers span declared itemsGood isCandidate candidate agree agreeAll treeOf keysOf endOf keysT keysA forest firsts others top stands bindings? solution solve by-free by-size step face face-var face-bound var-symbol var-var in? once-cases ℕ-discrete one at-bind at-swap at-follow decLe terms? codes moved matcher matching against items? item? same? recordOf countOf listedFrom bytes fieldBytes written
+unfolding printed textOfAll linesOf firstLines laterLines laterOperation firstOperation fieldsFrom fieldsWithin fieldBefore fieldAt digits decimal hex slotList recordText plainLine refusedLine slotLine foundLine solvedLine answered empty after put freeFrom inUse keysFrom distinct place? key? candidates answers slotsFrom longFrom listed sigRefusal aritiesGood refusal numbers span declared itemsGood isCandidate candidate agree agreeAll treeOf keysOf endOf keysT keysA forest firsts argumentsAfter top stands bindings? solution solve by-free by-size step face face-var face-bound var-symbol var-var in? once-cases ℕ-discrete one at-bind at-swap at-follow decLe terms? codes moved matcher matching against items? item? same? recordOf countOf listedFrom bytes fieldBytes writtenFields
 example = refl
 
 -- the field of the example's signature
@@ -131,5 +134,5 @@ Printing =
     × (printed (signatureField ++ (2 ∷ 0 ∷ 4 ∷ 0 ∷ 0 ∷ [])) ≡ openLine ++ logLine)
 
 pub printing : Printing
-unfolding printed textOfAll linesOf firstLines laterLines laterOperation firstOperation fieldsFrom fieldsWithin before fieldAt digits decimal hex slotList recordText plainLine refusedLine slotLine foundLine solvedLine answered empty after put freeFrom inUse keysFrom distinct place? key? candidates answers slotsFrom longFrom listed sigRefusal aritiesGood refusal numbers span declared itemsGood isCandidate candidate agree agreeAll treeOf keysOf endOf keysT keysA forest firsts others top stands bindings? solution solve by-free by-size step face face-var face-bound var-symbol var-var in? once-cases ℕ-discrete one at-bind at-swap at-follow decLe terms? codes moved matcher matching against items? item? same? recordOf countOf listedFrom bytes fieldBytes written
+unfolding printed textOfAll linesOf firstLines laterLines laterOperation firstOperation fieldsFrom fieldsWithin fieldBefore fieldAt digits decimal hex slotList recordText plainLine refusedLine slotLine foundLine solvedLine answered empty after put freeFrom inUse keysFrom distinct place? key? candidates answers slotsFrom longFrom listed sigRefusal aritiesGood refusal numbers span declared itemsGood isCandidate candidate agree agreeAll treeOf keysOf endOf keysT keysA forest firsts argumentsAfter top stands bindings? solution solve by-free by-size step face face-var face-bound var-symbol var-var in? once-cases ℕ-discrete one at-bind at-swap at-follow decLe terms? codes moved matcher matching against items? item? same? recordOf countOf listedFrom bytes fieldBytes writtenFields
 printing = (refl, refl, refl, refl, refl, refl, refl, refl, refl, refl, refl, refl, refl, refl, refl, refl, refl, refl, refl, refl)

@@ -19,13 +19,16 @@ use Rattle.definitions.specs.Answers.{Answer, refused, done, unless}
 use Rattle.library.specs.Store.{Store, openWith, answered}
 use Rattle.log.specs.Fields.{fieldAt}
 use Rattle.lines.specs.Lines.{digits, decimal, plainLine, refusedLine, slotLine, foundLine, solvedLine}
-use Rattle.log.specs.Reading.{placeAfter, before, fieldsWithin, fieldsFrom, fieldsOf, fieldOr}
+use Rattle.log.specs.Reading.{placeAfter, fieldBefore, fieldsWithin, fieldsFrom, fieldsOf, fieldOr}
 use Rattle.log.specs.declared.field.Field.{Field}
 use Rattle.log.specs.declared.field.Field.the-variants.{End, Cut, Whole}
 use Rattle.log.proofs.Fields.{field-inside}
-use Rattle.tasks.specs.Operations.{Operation, toOpen, toInsert, toDelete, toRetrieve, toSolve, firstOperation, deleteOperation, retrieveOperation, solveOperation, laterOperation, payload, operationIn}
+use Rattle.tasks.specs.Operations.{Operation, toOpen, toInsert, toDelete, toRetrieve, toSolve, firstOperation}
+use Rattle.tasks.specs.Operations.{deleteOperation, retrieveOperation, solveOperation, laterOperation, payload}
+use Rattle.tasks.specs.Operations.{operationIn}
 use Rattle.answerlines.specs.Words.{wordOf}
-use Rattle.turns.specs.Printed.{libraryCall, Line, answer, log, moved, lineThen, laterLines, unlessRefused, unopened, firstLines, linesOf, textOf, answerText}
+use Rattle.turns.specs.Printed.{libraryCall, Line, answer, log, storeAfter, lineThen, laterLines, unlessRefused}
+use Rattle.turns.specs.Printed.{unopened, firstLines, linesOf, textOf, answerText}
 
 -- a whole field, number i of its log, with this tag and a payload of n bytes, that LOG is printed for
 pub data Wrong (i tag n : ℕ) : Type 0 where
@@ -73,8 +76,8 @@ AllLie s [] = Unit {0}
 AllLie s (f ∷ fs) = Lies s f × AllLie s fs
 
 before-lies : (s : List ℕ) (at : ℕ) (f : Field) (fs : List Field) → f ≡ fieldAt s at → AllLie s fs
-    → AllLie s (before f fs)
-unfolding before
+    → AllLie s (fieldBefore f fs)
+unfolding fieldBefore
 before-lies s at End fs e h = tt
 before-lies s at Cut fs e h = (tt, h)
 before-lies s at (Whole tag start n) fs e h = (field-inside s at tag start n (sym e) .within, h)
@@ -236,16 +239,16 @@ later-log s st (f ∷ fs) h =
   where
     go : (o : Option Operation) → Verdict 1 f o
         → ((st′ : Store) → In log (laterLines s st′ fs) ↔ SomeFaulty fs)
-        → In log (lineThen st o (laterLines s (moved st o) fs)) ↔ SomeFaulty (f ∷ fs)
+        → In log (lineThen st o (laterLines s (storeAfter st o) fs)) ↔ SomeFaulty (f ∷ fs)
     go none w ih = ((λ i. faulty-here f fs w), (λ x. inl refl))
     go (some c) w ih = (from, into)
       where
-        from : (log ≡ answer c (answered st (libraryCall answerRoom c))) ⊎ In log (laterLines s (moved st (some c)) fs) → SomeFaulty (f ∷ fs)
+        from : (log ≡ answer c (answered st (libraryCall answerRoom c))) ⊎ In log (laterLines s (storeAfter st (some c)) fs) → SomeFaulty (f ∷ fs)
         from (inl e) = absurd (log-answer c (answered st (libraryCall answerRoom c)) e)
-        from (inr i) = faulty-there f fs (ih (moved st (some c)) .0 i)
+        from (inr i) = faulty-there f fs (ih (storeAfter st (some c)) .0 i)
 
-        into : SomeFaulty (f ∷ fs) → (log ≡ answer c (answered st (libraryCall answerRoom c))) ⊎ In log (laterLines s (moved st (some c)) fs)
-        into x = ⊎-elim (λ y. absurd (w y)) (λ y. inr (ih (moved st (some c)) .1 y)) (faulty-which f fs x)
+        into : SomeFaulty (f ∷ fs) → (log ≡ answer c (answered st (libraryCall answerRoom c))) ⊎ In log (laterLines s (storeAfter st (some c)) fs)
+        into x = ⊎-elim (λ y. absurd (w y)) (λ y. inr (ih (storeAfter st (some c)) .1 y)) (faulty-which f fs x)
 
 -- THE FIRST FIELD: there is no call exactly where it is faulty, and the call is refused exactly where its signature is
 abbrev pub Stops : Answer → Type 0
@@ -293,13 +296,13 @@ first-log s [] h = ((λ i. absurd i), (λ w. w .1))
 first-log s (f ∷ fs) h = go (operationIn true s f) (first-verdict s f (h .0))
   where
     go : (o : Option Operation) → FirstVerdict s f o
-        → In log (lineThen unopened o (unlessRefused unopened o (laterLines s (moved unopened o) fs)))
+        → In log (lineThen unopened o (unlessRefused unopened o (laterLines s (storeAfter unopened o) fs)))
         ↔ FaultyIn s (f ∷ fs)
     go none w = ((λ i. (0, w, faulty-first s f w)), (λ x. inl refl))
     go (some c) (n, stops) = answering (answered unopened (libraryCall answerRoom c)) stops
       where
         rest : List Line
-        rest = laterLines s (moved unopened (some c)) fs
+        rest = laterLines s (storeAfter unopened (some c)) fs
 
         answering : (a : Answer) → (Stops a ↔ RefusedSignature s f)
             → ((log ≡ answer c (answered unopened (libraryCall answerRoom c))) ⊎ In log (unless a [] rest)) ↔ FaultyIn s (f ∷ fs)
@@ -311,7 +314,7 @@ first-log s (f ∷ fs) h = go (operationIn true s f) (first-verdict s f (h .0))
         answering (done a b w) k = (from, into)
           where
             later : In log rest ↔ SomeFaulty fs
-            later = later-log s (moved unopened (some c)) fs (h .1)
+            later = later-log s (storeAfter unopened (some c)) fs (h .1)
 
             from : (log ≡ answer c (answered unopened (libraryCall answerRoom c))) ⊎ In log rest → FaultyIn s (f ∷ fs)
             from (inl e) = absurd (log-answer c (answered unopened (libraryCall answerRoom c)) e)
@@ -352,8 +355,8 @@ later-ending : (s : List ℕ) (st : Store) (fs : List Field) → Ending (laterLi
 unfolding laterLines
 later-ending s st [] = tt
 later-ending s st (f ∷ fs) =
-    then-ending st (operationIn false s f) (laterLines s (moved st (operationIn false s f)) fs)
-    (later-ending s (moved st (operationIn false s f)) fs)
+    then-ending st (operationIn false s f) (laterLines s (storeAfter st (operationIn false s f)) fs)
+    (later-ending s (storeAfter st (operationIn false s f)) fs)
 
 unless-ending : (st : Store) (o : Option Operation) (rest : List Line) → Ending rest → Ending (unlessRefused st o rest)
 unless-ending st none rest h = tt
@@ -368,8 +371,8 @@ unfolding firstLines
 first-ending s [] = tt
 first-ending s (f ∷ fs) =
     let o = operationIn true s f in
-    then-ending unopened o (unlessRefused unopened o (laterLines s (moved unopened o) fs))
-    (unless-ending unopened o (laterLines s (moved unopened o) fs) (later-ending s (moved unopened o) fs))
+    then-ending unopened o (unlessRefused unopened o (laterLines s (storeAfter unopened o) fs))
+    (unless-ending unopened o (laterLines s (storeAfter unopened o) fs) (later-ending s (storeAfter unopened o) fs))
 
 pub lines-ending : (s : List ℕ) → Ending (linesOf s)
 unfolding linesOf

@@ -20,20 +20,23 @@ use Rattle.theory.specs.Flat.{Item}
 use Rattle.theory.specs.Subst.{vars}
 use Rattle.theory.specs.Unify.{Bind, _:=_, full}
 use Rattle.theory.specs.Matcher.{items?}
-use Rattle.definitions.specs.Records.{listedFrom, countOf, recordOf, unless as unlessSelf}
+use Rattle.definitions.specs.Records.{listedFrom, countOf, recordOf, unlessDecided as unlessSelf}
 use Rattle.definitions.specs.Decisions.{bindings?}
 use Rattle.definitions.specs.Answers.{Answer, refused, done, unless, longFrom, recorded}
-use Rattle.library.specs.Store.{Store, slotsFrom, inUse, firstFree, put, keyCount, candidates, answers, solving, answered}
+use Rattle.library.specs.Store.{Store, slotsFrom, inUse, firstFree, put, keyCount, candidates, answers, solvingHeld}
+use Rattle.library.specs.Store.{answered}
 use Rattle.library.specs.Sound.{free-most, use-below}
 use Rattle.library.specs.Readable.{slots-are}
-use Rattle.lines.specs.Lines.{decimal, hex, slotList, recordText, ok, no as not, feed, figure, plainLine, refusedLine, slotLine, foundLine, solvedLine}
+use Rattle.lines.specs.Lines.{decimal, hex, slotList, recordText, ok, no as not, feed, figure, plainLine, refusedLine}
+use Rattle.lines.specs.Lines.{slotLine, foundLine, solvedLine}
 use Rattle.log.specs.declared.field.Field.{Field}
 use Rattle.log.specs.declared.field.Field.the-variants.{End, Cut, Whole}
 use Rattle.log.specs.Reading.{fieldsOf}
 use Rattle.lines.proofs.LineLaws.{decimal-one, decimal-more}
 use Rattle.tasks.specs.Operations.{Operation, toOpen, toInsert, toDelete, toRetrieve, toSolve, operationIn}
 use Rattle.answerlines.specs.Words.{wordOf, logWord}
-use Rattle.turns.specs.Printed.{libraryCall, Line, log, moved, lineThen, laterLines, unlessRefused, unopened, firstLines, linesOf, answerText, textOf}
+use Rattle.turns.specs.Printed.{libraryCall, Line, log, storeAfter, lineThen, laterLines, unlessRefused, unopened}
+use Rattle.turns.specs.Printed.{firstLines, linesOf, answerText, textOf}
 
 -- NUMBERS below 1,000 have at most three digits
 decimal-first : (n : ℕ) → n < 10 → length (decimal n) ≤ 1
@@ -196,7 +199,7 @@ module _ (s : ℕ) (q : List ℕ) where
       solved-short (wordOf asked) (word-short asked) (countOf (full B)) (recordOf (full B)) (few-fields (full B))
       (omega (arith, ltb-false answerRoom (length (recordOf (full B))) f))))
 
-  solving-fits : (sig : List ℕ) (o : Option (List ℕ)) → AnswerFits asked (solving sig o q answerRoom)
+  solving-fits : (sig : List ℕ) (o : Option (List ℕ)) → AnswerFits asked (solvingHeld sig o q answerRoom)
   solving-fits sig none = refused-fits asked 4 (omega arith)
   solving-fits sig (some t) =
       chosen (AnswerFits asked) (eqb (refusal sig q) 0) _ _ (λ e. recorded-fits (bindings? sig t q))
@@ -252,8 +255,8 @@ later-short : (s : List ℕ) (st : Store) (fs : List Field) (l : Line) → In l 
 unfolding laterLines
 later-short s st [] l i = absurd i
 later-short s st (f ∷ fs) l i =
-    line-then st (operationIn false s f) (laterLines s (moved st (operationIn false s f)) fs)
-    (later-short s (moved st (operationIn false s f)) fs) l i
+    line-then st (operationIn false s f) (laterLines s (storeAfter st (operationIn false s f)) fs)
+    (later-short s (storeAfter st (operationIn false s f)) fs) l i
 
 unless-short : (st : Store) (o : Option Operation) (rest : List Line) → ((l : Line) → In l rest → LineFits l)
     → (l : Line) → In l (unlessRefused st o rest) → LineFits l
@@ -268,9 +271,9 @@ first-short : (s : List ℕ) (fs : List Field) (l : Line) → In l (firstLines s
 unfolding firstLines
 first-short s [] l i = absurd i
 first-short s (f ∷ fs) l i =
-    line-then unopened (operationIn true s f) (unlessRefused unopened (operationIn true s f) (laterLines s (moved unopened (operationIn true s f)) fs))
-    (unless-short unopened (operationIn true s f) (laterLines s (moved unopened (operationIn true s f)) fs)
-    (later-short s (moved unopened (operationIn true s f)) fs)) l i
+    line-then unopened (operationIn true s f) (unlessRefused unopened (operationIn true s f) (laterLines s (storeAfter unopened (operationIn true s f)) fs))
+    (unless-short unopened (operationIn true s f) (laterLines s (storeAfter unopened (operationIn true s f)) fs)
+    (later-short s (storeAfter unopened (operationIn true s f)) fs)) l i
 
 -- every line of every input fits the buffer of a line
 pub lines-fit : (s : List ℕ) (l : Line) → In l (linesOf s) → length (textOf l) ≤ lineRoom

@@ -32,9 +32,9 @@ pub data Line : Type 0 where
   log : Line
 
 -- the store after a field
-abbrev pub moved : Store → Option Operation → Store
-moved st none = st
-moved st (some c) = after st (libraryCall answerRoom c)
+abbrev pub storeAfter : Store → Option Operation → Store
+storeAfter st none = st
+storeAfter st (some c) = after st (libraryCall answerRoom c)
 
 -- 'LOG is printed, and the program stops'; else one line for the field, and the rest
 abbrev pub lineThen : Store → Option Operation → List Line → List Line
@@ -45,7 +45,7 @@ lineThen st (some c) rest = answer c (answered st (libraryCall answerRoom c)) �
 unfoldable pub laterLines : List ℕ → Store → List Field → List Line
 laterLines s st [] = []
 laterLines s st (f ∷ fs) =
-    lineThen st (operationIn false s f) (laterLines s (moved st (operationIn false s f)) fs)
+    lineThen st (operationIn false s f) (laterLines s (storeAfter st (operationIn false s f)) fs)
 
 -- `open no 2`, 'which also stops the program'
 abbrev pub unlessRefused : Store → Option Operation → List Line → List Line
@@ -62,7 +62,7 @@ firstLines s [] = []
 firstLines s (f ∷ fs) =
     lineThen unopened (operationIn true s f)
     (unlessRefused unopened (operationIn true s f)
-    (laterLines s (moved unopened (operationIn true s f)) fs))
+    (laterLines s (storeAfter unopened (operationIn true s f)) fs))
 
 -- 'for an input of over 65,535 bytes, whatever it holds; `log no 16` is then the only line'
 unfoldable pub linesOf : List ℕ → List Line

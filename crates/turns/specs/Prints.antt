@@ -18,10 +18,12 @@ use Rattle.terms.specs.Terms.{sigRefusal, refusal}
 use Rattle.theory.specs.Unify.{Bind, full}
 use Rattle.definitions.specs.Records.{recordOf, countOf}
 use Rattle.definitions.specs.Decisions.{bindings?}
-use Rattle.definitions.specs.Answers.{Answer, refused, done, refusalIn, firstIn, secondIn, written, unless, recorded, longFrom}
+use Rattle.definitions.specs.Answers.{Answer, refused, done, refusalIn, firstIn, secondIn, written, unless, recorded}
+use Rattle.definitions.specs.Answers.{longFrom}
 use Rattle.layout.specs.Tables.{Tables, ample}
 use Rattle.calls.specs.Outcome.{Outcome, Result, told}
-use Rattle.library.specs.Store.{Store, openWith, inUse, firstFree, put, keyCount, answers, candidates, solving, answered, empty, after}
+use Rattle.library.specs.Store.{Store, openWith, inUse, firstFree, put, keyCount, answers, candidates, solvingHeld}
+use Rattle.library.specs.Store.{answered, empty, after}
 use Rattle.store.specs.Calls.{opening}
 use Rattle.meaning.specs.Runs.{carried, Called}
 use Rattle.meaning.specs.Stand.{Stand}
@@ -32,14 +34,17 @@ use Rattle.meaning.specs.Told.{front-bytes}
 use Rattle.log.specs.declared.field.Field.{Field}
 use Rattle.log.specs.declared.field.Field.the-variants.{End, Cut, Whole}
 use Rattle.log.specs.Fields.{fieldAt, lengthAt}
-use Rattle.log.specs.Reading.{placeAfter, takenAt, before, fieldsFrom, fieldsOf}
+use Rattle.log.specs.Reading.{placeAfter, takenAt, fieldBefore, fieldsFrom, fieldsOf}
 use Rattle.lines.specs.Lines.{Put, refusedLine, plainLine}
 use Rattle.log.proofs.Fields.{field-end, taken-onward}
 use Rattle.log.proofs.Reading.{next-first}
-use Rattle.tasks.specs.Operations.{Operation, toOpen, toInsert, toDelete, toRetrieve, toSolve, firstOperation, deleteOperation, retrieveOperation, solveOperation, laterOperation, payload, operationIn}
+use Rattle.tasks.specs.Operations.{Operation, toOpen, toInsert, toDelete, toRetrieve, toSolve, firstOperation}
+use Rattle.tasks.specs.Operations.{deleteOperation, retrieveOperation, solveOperation, laterOperation, payload}
+use Rattle.tasks.specs.Operations.{operationIn}
 use Rattle.tasks.specs.Ordered.{operationAt, placePast}
 use Rattle.answerlines.specs.Words.{wordOf, logWord}
-use Rattle.turns.specs.Printed.{libraryCall, Line, answer, log, moved, lineThen, laterLines, unlessRefused, unopened, firstLines, linesOf, doneText, answerText, textOf, textOfAll, printed}
+use Rattle.turns.specs.Printed.{libraryCall, Line, answer, log, storeAfter, lineThen, laterLines, unlessRefused}
+use Rattle.turns.specs.Printed.{unopened, firstLines, linesOf, doneText, answerText, textOf, textOfAll, printed}
 use Rattle.turns.specs.Turns.{resultOf, toldBytes, lineOf, stopsAfter, madeAt, lineAt, nextAt, Turned}
 use Rattle.turns.specs.LongestLine.{answer-fits, log-fits}
 
@@ -54,43 +59,43 @@ pub data Shown (s : List ℕ) : ℕ → Tables → List ℕ → List ℕ → Typ
       → Shown s next S out′ text → Shown s at T out (take length′ line ++ text)
 
 -- WHAT AN ANSWER'S BYTES ARE: a refusal has a number, a listing two bytes a slot, a record the length that is told
-abbrev Shape : ℕ → Operation → Answer → Type 0
-Shape room c (refused n) = n ≡ 0 → ⊥
-Shape room (toOpen sig) (done a b w) = Unit {0}
-Shape room (toInsert t) (done a b w) = Unit {0}
-Shape room (toDelete s) (done a b w) = Unit {0}
-Shape room (toRetrieve r q) (done a b w) = (length w ≡ 2 * b) × (length w ≤ room)
-Shape room (toSolve s q) (done a b w) = (length w ≡ b) × (length w ≤ room)
+abbrev AnswerBytes : ℕ → Operation → Answer → Type 0
+AnswerBytes room c (refused n) = n ≡ 0 → ⊥
+AnswerBytes room (toOpen sig) (done a b w) = Unit {0}
+AnswerBytes room (toInsert t) (done a b w) = Unit {0}
+AnswerBytes room (toDelete s) (done a b w) = Unit {0}
+AnswerBytes room (toRetrieve r q) (done a b w) = (length w ≡ 2 * b) × (length w ≤ room)
+AnswerBytes room (toSolve s q) (done a b w) = (length w ≡ b) × (length w ≤ room)
 
-recorded-shape : (s room : ℕ) (q : List ℕ) (B : Option (List Bind)) → Shape room (toSolve s q) (recorded B room)
+recorded-shape : (s room : ℕ) (q : List ℕ) (B : Option (List Bind)) → AnswerBytes room (toSolve s q) (recorded B room)
 recorded-shape s room q none = λ z. omega arith
 recorded-shape s room q (some B) =
-    chosen (Shape room (toSolve s q)) (longFrom (full B) 64 0) _ _ (λ e z. omega arith) (λ e.
-    chosen (Shape room (toSolve s q)) (ltb room (length (recordOf (full B)))) _ _ (λ f z. omega arith) (λ f.
+    chosen (AnswerBytes room (toSolve s q)) (longFrom (full B) 64 0) _ _ (λ e z. omega arith) (λ e.
+    chosen (AnswerBytes room (toSolve s q)) (ltb room (length (recordOf (full B)))) _ _ (λ f z. omega arith) (λ f.
     (refl, ltb-false room (length (recordOf (full B))) f)))
 
-solving-shape : (sig : List ℕ) (s room : ℕ) (q : List ℕ) (o : Option (List ℕ)) → Shape room (toSolve s q) (solving sig o q room)
+solving-shape : (sig : List ℕ) (s room : ℕ) (q : List ℕ) (o : Option (List ℕ)) → AnswerBytes room (toSolve s q) (solvingHeld sig o q room)
 solving-shape sig s room q none = λ z. omega arith
 solving-shape sig s room q (some t) =
-    chosen (Shape room (toSolve s q)) (eqb (refusal sig q) 0) _ _ (λ e. recorded-shape s room q (bindings? sig t q)) (λ e. eqb-false (refusal sig q) 0 e)
+    chosen (AnswerBytes room (toSolve s q)) (eqb (refusal sig q) 0) _ _ (λ e. recorded-shape s room q (bindings? sig t q)) (λ e. eqb-false (refusal sig q) 0 e)
 
-answered-shape : (room : ℕ) (st : Store) (c : Operation) → Shape room c (answered st (libraryCall room c))
+answered-shape : (room : ℕ) (st : Store) (c : Operation) → AnswerBytes room c (answered st (libraryCall room c))
 unfolding answered
-answered-shape room st (toOpen sig) = chosen (Shape room (toOpen sig)) (eqb (sigRefusal sig) 0) _ _ (λ e. tt) (λ e z. omega arith)
+answered-shape room st (toOpen sig) = chosen (AnswerBytes room (toOpen sig)) (eqb (sigRefusal sig) 0) _ _ (λ e. tt) (λ e z. omega arith)
 answered-shape room st (toInsert t) =
-    chosen (Shape room (toInsert t)) (eqb (refusal (st .signature) t) 0) _ _ (λ e.
-    chosen (Shape room (toInsert t)) (eqb (firstFree st) slotCount) _ _ (λ f z. omega arith) (λ f.
-    chosen (Shape room (toInsert t)) (ltb keyLimit (keyCount (put st (firstFree st) (some t)))) _ _ (λ g z. omega arith) (λ g. tt)))
+    chosen (AnswerBytes room (toInsert t)) (eqb (refusal (st .signature) t) 0) _ _ (λ e.
+    chosen (AnswerBytes room (toInsert t)) (eqb (firstFree st) slotCount) _ _ (λ f z. omega arith) (λ f.
+    chosen (AnswerBytes room (toInsert t)) (ltb keyLimit (keyCount (put st (firstFree st) (some t)))) _ _ (λ g z. omega arith) (λ g. tt)))
     (λ e. eqb-false (refusal (st .signature) t) 0 e)
-answered-shape room st (toDelete s) = chosen (Shape room (toDelete s)) (inUse st s) _ _ (λ e. tt) (λ e z. omega arith)
+answered-shape room st (toDelete s) = chosen (AnswerBytes room (toDelete s)) (inUse st s) _ _ (λ e. tt) (λ e z. omega arith)
 answered-shape room st (toRetrieve r q) =
-    chosen (Shape room (toRetrieve r q)) (ltb 4 r) _ _ (λ e z. omega arith) (λ e.
-    chosen (Shape room (toRetrieve r q)) (eqb (refusal (st .signature) q) 0) _ _ (λ f.
-    chosen (Shape room (toRetrieve r q)) (ltb room (2 * length (answers st r q))) _ _ (λ g z. omega arith) (λ g.
+    chosen (AnswerBytes room (toRetrieve r q)) (ltb 4 r) _ _ (λ e z. omega arith) (λ e.
+    chosen (AnswerBytes room (toRetrieve r q)) (eqb (refusal (st .signature) q) 0) _ _ (λ f.
+    chosen (AnswerBytes room (toRetrieve r q)) (ltb room (2 * length (answers st r q))) _ _ (λ g z. omega arith) (λ g.
     (length-listed (answers st r q), omega (arith, length-listed (answers st r q), ltb-false room (2 * length (answers st r q)) g))))
     (λ f. eqb-false (refusal (st .signature) q) 0 f))
 answered-shape room st (toSolve s q) =
-    chosen (Shape room (toSolve s q)) (inUse st s) _ _ (λ e. solving-shape (st .signature) s room q (st .held s)) (λ e z. omega arith)
+    chosen (AnswerBytes room (toSolve s q)) (inUse st s) _ _ (λ e. solving-shape (st .signature) s room q (st .held s)) (λ e z. omega arith)
 
 -- THE LINE of an answer, from what came out of its call
 take-front : (w out : List ℕ) (n : ℕ) → length w ≤ length out → n ≡ length w → take n (sets out 0 w) ≡ w
@@ -101,7 +106,7 @@ toldText c a out =
     pick (eqb (refusalIn a) 0) (doneText c (firstIn a) (secondIn a) (toldBytes c (secondIn a) (sets out 0 (written a))))
     (refusedLine (wordOf c) (refusalIn a))
 
-told-done : (c : Operation) (a b : ℕ) (w out : List ℕ) → Shape (length out) c (done a b w) → doneText c a b (toldBytes c b (sets out 0 w)) ≡ doneText c a b w
+told-done : (c : Operation) (a b : ℕ) (w out : List ℕ) → AnswerBytes (length out) c (done a b w) → doneText c a b (toldBytes c b (sets out 0 w)) ≡ doneText c a b w
 told-done (toOpen sig) a b w out g = refl
 told-done (toInsert t) a b w out g = refl
 told-done (toDelete s) a b w out g = refl
@@ -112,7 +117,7 @@ told-done (toSolve s q) a b w out g =
     let n = length-sets out 0 w in
     ap (doneText (toSolve s q) a b) (take-front w out (min b (length (sets out 0 w))) (g .1) (omega (arith, g .0, g .1, n)))
 
-told-is : (c : Operation) (a : Answer) (out : List ℕ) → Shape (length out) c a → toldText c a out ≡ answerText c a
+told-is : (c : Operation) (a : Answer) (out : List ℕ) → AnswerBytes (length out) c a → toldText c a out ≡ answerText c a
 told-is c (refused n) out g = rw (ne-eqb n 0 g)
 told-is c (done a b w) out g = told-done c a b w out g
 
@@ -143,8 +148,8 @@ not-end s at h e = go (ltb (length s - at) 3) (ltb (length s - at - 3) (lengthAt
     go false true q = let z : _≡_ {A = ℕ} 0 1 = cc in omega arith
     go false false q = let z : _≡_ {A = ℕ} 0 1 = cc in omega arith
 
-before-some : (f : Field) (fs : List Field) → (f ≡ End → ⊥) → before f fs ≡ f ∷ fs
-unfolding before
+before-some : (f : Field) (fs : List Field) → (f ≡ End → ⊥) → fieldBefore f fs ≡ f ∷ fs
+unfolding fieldBefore
 before-some End fs n = absurd (n refl)
 before-some Cut fs n = refl
 before-some (Whole tag start k) fs n = refl
@@ -152,8 +157,8 @@ before-some (Whole tag start k) fs n = refl
 fields-more : (s : List ℕ) (at : ℕ) → at < length s → fieldsFrom s at ≡ fieldAt s at ∷ fieldsFrom s (placeAfter s at)
 fields-more s at h = next-first s at ∙ before-some (fieldAt s at) (fieldsFrom s (placeAfter s at)) (not-end s at h)
 
-before-end : (fs : List Field) → before End fs ≡ []
-unfolding before
+before-end : (fs : List Field) → fieldBefore End fs ≡ []
+unfolding fieldBefore
 before-end fs = refl
 
 fields-none : (s : List ℕ) (at : ℕ) → length s ≤ at → fieldsFrom s at ≡ []
@@ -278,7 +283,7 @@ later-prints s short at T out text st (turning a U o line₀ S out′ line n nex
   where
     go : ((u : Store) → (next ≡ 0 → ⊥) → Stand S u → length out′ ≡ answerRoom → rest ≡ textOfAll (laterLines s u (fieldsFrom s next)))
         → (c : Option Operation) → operationIn false s (fieldAt s at) ≡ c → NotOpen c
-        → take n line ++ rest ≡ textOfAll (lineThen st c (laterLines s (moved st c) (fieldsFrom s (placeAfter s at))))
+        → take n line ++ rest ≡ textOfAll (lineThen st c (laterLines s (storeAfter st c) (fieldsFrom s (placeAfter s at))))
     go again none q o = log-shown s at T out line₀ S out′ line n next rest e t r (call-later s at short z ∙ q)
     go again (some c) q o =
         let k : operationAt s at ≡ some c = call-later s at short z ∙ q in
@@ -332,7 +337,7 @@ first-prints s short at T out text (turning a U o line₀ S out′ line n next r
         shown-end s next S out′ rest r (omega arith)
 
     go : (c : Option Operation) → operationIn true s (fieldAt s at) ≡ c → OnlyOpen c
-        → take n line ++ rest ≡ textOfAll (lineThen unopened c (unlessRefused unopened c (laterLines s (moved unopened c) (fieldsFrom s (placeAfter s at)))))
+        → take n line ++ rest ≡ textOfAll (lineThen unopened c (unlessRefused unopened c (laterLines s (storeAfter unopened c) (fieldsFrom s (placeAfter s at)))))
     go none q o = log-shown s at T out line₀ S out′ line n next rest e t r (call-first s at short z ∙ q)
     go (some c) q o =
         let sig = o .0 in

@@ -1,4 +1,4 @@
--- Serves SCOPE.md, 'The solver's record': what callers show to ask: that the checks of crate `terms` took the
+-- Serves SCOPE.md, 'The solver's record': what callers show to ask: that the checks took the
 -- signature, the stored term and the question.
 use mathlib.Core.Path.{_≡_}
 use mathlib.Core.List.{List}

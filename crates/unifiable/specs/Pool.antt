@@ -13,11 +13,12 @@ use lib.Dec.{eqb}
 use borrow.Author.Tests.{eqb-true, eqb-false}
 use Rattle.theory.specs.Relations.{Decided, Unifiable}
 use Rattle.theory.specs.Subst.{app, Sub, term-length}
-use Rattle.theory.specs.Unify.{Bind, full, Good}
+use Rattle.theory.specs.Unify.{Bind, full, GoodBindings}
 use Rattle.theory.specs.Canon.{Least, Mgu}
 use Rattle.theory.specs.Cut.{first, first-append}
-use Rattle.theory.specs.Items.{item16, items16, codes, length-codes, getD-codes, moved, moved-sym, moved-var, moved-le, items, shift, shift-codes, shift-terms, Fine}
-use Rattle.joining.specs.Run.{Given, Shape, Tab, Ended, term}
+use Rattle.theory.specs.Items.{item16, items16, codes, length-codes, getD-codes, moved, moved-sym, moved-var, moved-le}
+use Rattle.theory.specs.Items.{items, shift, shift-codes, shift-terms, Fine}
+use Rattle.joining.specs.Run.{Given, BindingTable, Tab, UnifierEnds, term}
 use Rattle.terms.specs.Terms.{arity, itemAt, numbers}
 use Rattle.laws.specs.Sizes.{variableBase, variableEnd, writtenEnd}
 use Rattle.items.specs.Decoding.{writtenAs, decoded, as-symbol, as-variable}
@@ -28,8 +29,8 @@ pub record Asked (sig s q : List ℕ) : Type 0 where
   pub arities : (f : ℕ) → arity sig f ≤ 8
 
 -- one after the other
-abbrev pub both : List ℕ → List ℕ → List ℕ
-both s q = codes 0 s ++ codes 32 q
+abbrev pub pooled : List ℕ → List ℕ → List ℕ
+pooled s q = codes 0 s ++ codes 32 q
 
 map-append : (a b : List ℕ) → items16 (a ++ b) ≡ items16 a ++ items16 b
 map-append [] b = refl
@@ -39,10 +40,10 @@ module _ (sig s q : List ℕ) (A : Asked sig s q) where
   question-term : Terms (arity sig) 1 (items16 (codes 32 q))
   question-term = rw (shift-codes 32 q) (shift-terms (arity sig) 32 1 (items q) (A .question .term))
 
-  pub length-both : length (both s q) ≡ length s / 2 + length q / 2
+  pub length-both : length (pooled s q) ≡ length s / 2 + length q / 2
   length-both = length-append (codes 0 s) (codes 32 q) ∙ omega (arith, length-codes 0 s, length-codes 32 q)
 
-  pub given : Given sig (both s q)
+  pub given : Given sig (pooled s q)
   given = record {
     count = 2;
     terms = rw map-append (terms-append (arity sig) 1 1 (items s) (items16 (codes 32 q)) (A .stored .term) question-term);
@@ -51,7 +52,7 @@ module _ (sig s q : List ℕ) (A : Asked sig s q) where
     arities = A .arities;
   }
     where
-      name : (p : ℕ) → p < length (both s q) → Dec (p < length (codes 0 s)) → getD (both s q) p 0 < writtenEnd
+      name : (p : ℕ) → p < length (pooled s q) → Dec (p < length (codes 0 s)) → getD (pooled s q) p 0 < writtenEnd
       name p b (yes l) =
           let i : p < length s / 2 = omega (arith, length-codes 0 s) in
           rw (List·getD-append (codes 0 s) (codes 32 q) 0 p l, getD-codes 0 s p i) (omega (arith, moved-le 0 (itemAt s p) (A .stored .named p i)))
@@ -62,30 +63,30 @@ module _ (sig s q : List ℕ) (A : Asked sig s q) where
           rw (e, getD-append-add (codes 0 s) (codes 32 q) (p - length (codes 0 s)) 0, getD-codes 32 q (p - length (codes 0 s)) i)
           (omega (arith, moved-le 32 (itemAt q j) (A .question .named j i)))
 
-  pub term-stored : term sig (both s q) 0 ≡ items s
+  pub term-stored : term sig (pooled s q) 0 ≡ items s
   term-stored = ap (first (arity sig) 1) (map-append (codes 0 s) (codes 32 q)) ∙ first-append (arity sig) 1 (items s) (items16 (codes 32 q)) (A .stored .term)
 
-  pub term-question : term sig (both s q) (length s / 2) ≡ shift 32 (items q)
+  pub term-question : term sig (pooled s q) (length s / 2) ≡ shift 32 (items q)
   term-question =
       ap (λ r. first (arity sig) 1 r) (ap (drop (length s / 2)) (map-append (codes 0 s) (codes 32 q))
       ∙ ap (λ (k : ℕ). drop k (items s ++ items16 (codes 32 q))) (sym (length-map (codes 0 s) item16 ∙ length-codes 0 s)) ∙ drop-append-seam (items s) (items16 (codes 32 q)) ∙ sym (append-nil (items16 (codes 32 q))))
       ∙ first-append (arity sig) 1 (items16 (codes 32 q)) [] question-term ∙ shift-codes 32 q
 
 -- the answer: bindings that make the stored term and the question the same, in the bytes' own terms
-pub record Solved (sig s q tab : List ℕ) : Type 0 where
+pub record PairSolved (sig s q tab : List ℕ) : Type 0 where
   pub binds : List Bind
-  pub good : Good binds
-  pub table : Tab sig (both s q) tab binds
-  pub shape : Shape tab (both s q)
+  pub good : GoodBindings binds
+  pub table : Tab sig (pooled s q) tab binds
+  pub shape : BindingTable tab (pooled s q)
   pub few : length binds ≤ 64
   pub mgu : Mgu (arity sig) (items s) (shift 32 (items q)) (full binds)
   pub least : Least (full binds)
 
-abbrev pub Answer : List ℕ → List ℕ → List ℕ → ℕ → List ℕ → Type 0
-Answer sig s q code tab = (code ≡ 0 → Solved sig s q tab)
+abbrev pub PairAnswer : List ℕ → List ℕ → List ℕ → ℕ → List ℕ → Type 0
+PairAnswer sig s q code tab = (code ≡ 0 → PairSolved sig s q tab)
     × (code ≢ 0 → (σ : ℕ → List Item) → Sub (arity sig) σ → app σ (items s) ≡ app σ (shift 32 (items q)) → ⊥)
 
-pub answer : (sig s q : List ℕ) → Asked sig s q → (code : ℕ) (tab : List ℕ) → Ended sig (both s q) (length s / 2) code tab → Answer sig s q code tab
+pub answer : (sig s q : List ℕ) → Asked sig s q → (code : ℕ) (tab : List ℕ) → UnifierEnds sig (pooled s q) (length s / 2) code tab → PairAnswer sig s q code tab
 answer sig s q A code tab e = (
   (λ z. let u = e .0 z in record {
     binds = u .binds;
@@ -121,7 +122,7 @@ decoded-codes bank (x ∷ y ∷ r) h = rw (code-same bank (x * 256 + y) (h 0 (om
 
 -- the pool that two loads leave, cut to its length
 pub loaded : (s q pool : List ℕ) → length s / 2 + length q / 2 ≤ length pool
-    → take (length s / 2 + length q / 2) (sets (sets pool 0 (codes 0 s)) (length s / 2) (codes 32 q)) ≡ both s q
+    → take (length s / 2 + length q / 2) (sets (sets pool 0 (codes 0 s)) (length s / 2) (codes 32 q)) ≡ pooled s q
 loaded s q pool b =
     let a = length-codes 0 s in
     let c = length-codes 32 q in
@@ -131,16 +132,16 @@ loaded s q pool b =
     let n : length L ≡ length pool = sym (ap length e₁) ∙ length-sets pool 0 (codes 0 s) in
     let D = drop (length s / 2 + length (codes 32 q)) L in
     let t : take (length s / 2) L ≡ codes 0 s = take-at (codes 0 s) (drop (length s / 2) pool) (length s / 2) a in
-    let e₂ : sets L (length s / 2) (codes 32 q) ≡ both s q ++ D
+    let e₂ : sets L (length s / 2) (codes 32 q) ≡ pooled s q ++ D
     = sets-eq (codes 32 q) L (length s / 2) (omega arith) ∙ ap (λ r. r ++ codes 32 q ++ D) t in
-    let m : length (both s q) ≡ length s / 2 + length q / 2 = length-append (codes 0 s) (codes 32 q) ∙ omega arith in
-    ap (λ r. take (length s / 2 + length q / 2) (sets r (length s / 2) (codes 32 q))) e₁ ∙ ap (take (length s / 2 + length q / 2)) e₂ ∙ take-at (both s q) D (length s / 2 + length q / 2) m
+    let m : length (pooled s q) ≡ length s / 2 + length q / 2 = length-append (codes 0 s) (codes 32 q) ∙ omega arith in
+    ap (λ r. take (length s / 2 + length q / 2) (sets r (length s / 2) (codes 32 q))) e₁ ∙ ap (take (length s / 2 + length q / 2)) e₂ ∙ take-at (pooled s q) D (length s / 2 + length q / 2) m
 
 -- what the loads leave: both terms in the pool, the question at r
 pub record Loaded (sig s q pool : List ℕ) (r : ℕ) : Type 0 where
   pub root : r ≡ length s / 2
   pub many : length pool ≡ 64
-  pub is : take (length s / 2 + length q / 2) pool ≡ both s q
+  pub is : take (length s / 2 + length q / 2) pool ≡ pooled s q
 
 -- from the two loads
 pub loads : (sig s q p pool : List ℕ) (r : ℕ) → Asked sig s q → length s / 2 + length q / 2 ≤ length p → r ≡ length s / 2 → length p ≡ 64
@@ -155,17 +156,17 @@ loads sig s q p pool r A b e n is =
       is = ap (take (length s / 2 + length q / 2)) is′ ∙ loaded s q p b;
     }
 
-pub loaded-cut : (sig s q pool : List ℕ) (r : ℕ) → Loaded sig s q pool r → take (r + length q / 2) pool ≡ both s q
+pub loaded-cut : (sig s q pool : List ℕ) (r : ℕ) → Loaded sig s q pool r → take (r + length q / 2) pool ≡ pooled s q
 loaded-cut sig s q pool r l = ap (λ (k : ℕ). take (k + length q / 2) pool) (l .root) ∙ l .is
 
-pub ready : (sig s q : List ℕ) → Asked sig s q → Given sig (both s q) × (length s / 2 < length (both s q))
+pub ready : (sig s q : List ℕ) → Asked sig s q → Given sig (pooled s q) × (length s / 2 < length (pooled s q))
 ready sig s q A = (
   given sig s q A,
   omega (arith, length-both sig s q A, A .question .even, term-length (arity sig) 1 (items q) (A .question .term), length-map (codes 0 q) item16, length-codes 0 q),
 )
 
 -- code 0 tells that the two are unifiable
-pub decided : (sig s q : List ℕ) (code : ℕ) (tab : List ℕ) → Answer sig s q code tab → Decided (eqb code 0) (Unifiable sig s q)
+pub decided : (sig s q : List ℕ) (code : ℕ) (tab : List ℕ) → PairAnswer sig s q code tab → Decided (eqb code 0) (Unifiable sig s q)
 decided sig s q code tab a = record {
   holds = λ e. (let m = a .0 (eqb-true code 0 e) .mgu in record { by = full (a .0 (eqb-true code 0 e) .binds); sub = m .sub; same = m .unifies });
   fails = λ e u. a .1 (eqb-false code 0 e) (u .by) (u .sub) (u .same);

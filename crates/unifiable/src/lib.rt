@@ -7,7 +7,7 @@ use variables::Bank;
 ghost use mathlib.Core.Path.{_≡_};
 ghost use lib.ListN.{length};
 ghost use Rattle.theory.specs.Relations.{Decided, Unifiable};
-ghost use Rattle.unifiable.specs.Pool.{Asked, Loaded, Answer};
+ghost use Rattle.unifiable.specs.Pool.{Asked, Loaded, PairAnswer};
 
 // Both terms into the pool, the stored one first; where the question begins.
 pub fn load_both(sig: &[u8], pool: &mut [u16], stored: &[u8], question: &[u8]) -> usize
@@ -22,7 +22,7 @@ pub fn load_both(sig: &[u8], pool: &mut [u16], stored: &[u8], question: &[u8]) -
 // The bindings that make the stored term and the question the same, or code 1 or 2.
 fn solve(sig: &[u8], stored: &[u8], question: &[u8]) -> Outcome
     requires { ⌜ Asked (now sig) (now stored) (now question) ⌝ }
-    ensures { λ r. ⌜ Answer (now (sig .entry)) (now (stored .entry)) (now (question .entry)) (r .code) (r .tab) ⌝ }
+    ensures { λ r. ⌜ PairAnswer (now (sig .entry)) (now (stored .entry)) (now (question .entry)) (r .code) (r .tab) ⌝ }
 {
     let mut pool = [0u16; 64];
     let m = load_both(sig, &mut pool, stored, question);

@@ -10,13 +10,13 @@ use variables::WrittenVariable;
 ghost use mathlib.Core.Path.{_≡_};
 ghost use Prim.Native.Nat.{ℕ, _^_, _<_};
 ghost use lib.ListN.{length, getD};
-ghost use Rattle.joining.specs.Run.{Given, Shape, Led, Ended};
+ghost use Rattle.joining.specs.Run.{Given, BindingTable, Led, UnifierEnds};
 ghost use Rattle.unify.specs.Face.{Faced};
 ghost use Rattle.laws.specs.Sizes.{writtenEnd};
 
 // Where bindings lead from p.
 fn deref(tab: &[u8; 64], pool: &[u16], p: usize) -> usize
-    requires { ⌜ Shape (now tab) (now pool) × (p < length (now pool))
+    requires { ⌜ BindingTable (now tab) (now pool) × (p < length (now pool))
         × ((k : ℕ) → k < length (now pool) → getD (now pool) k 0 < writtenEnd) ⌝ }
     ensures { λ r. ⌜ Led (now (tab .entry)) (now (pool .entry)) p r ⌝ }
 {
@@ -93,7 +93,7 @@ pub struct Outcome {
 // and in `tab` for each variable 0 or one more than the node that it is bound to.
 pub fn unify(sig: &[u8], pool: &[u16], root: usize) -> Outcome
     requires { ⌜ Given (now sig) (now pool) × (root < length (now pool)) ⌝ }
-    ensures { λ r. ⌜ Ended (now (sig .entry)) (now (pool .entry)) root (r .code) (r .tab) ⌝ }
+    ensures { λ r. ⌜ UnifierEnds (now (sig .entry)) (now (pool .entry)) root (r .code) (r .tab) ⌝ }
 {
     let mut tab = [0u8; 64];
     let mut masks = [0u64; 64];

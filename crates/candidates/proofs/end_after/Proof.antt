@@ -3,14 +3,14 @@ use mathlib.Core.Path.{_≡_, refl, sym, ap, _∙_}
 use native.Mathlib.Omega.{arith}
 use borrow.Author.Needs.{needs}
 use lib.ListN.{length, getD, drop}
-use Rattle.definitions.specs.Trees.{forest, others}
+use Rattle.definitions.specs.Trees.{forest, argumentsAfter}
 use Rattle.candidates.specs.Forests.{forest-end}
 use Rattle.candidates.proofs.CandidateLaws.{after-start, after-turn, after-done}
 use Rattle.candidates.proofs.end_after.Statement.{statement}
 use Rattle.candidates.proofs.end_after.Tie as tie
 
 abbrev Inv-loop : tie.InvT-loop
-Inv-loop sig items ends i e₀ a₀ e a = (i < e) × (e ≤ length items) × (others a (forest sig (drop e items)) ≡ others 1 (forest sig (drop i items)))
+Inv-loop sig items ends i e₀ a₀ e a = (i < e) × (e ≤ length items) × (argumentsAfter a (forest sig (drop e items)) ≡ argumentsAfter 1 (forest sig (drop i items)))
 
 abbrev μ-loop : tie.MeasureT-loop
 μ-loop sig items ends i e₀ a₀ e a = a

@@ -1,4 +1,4 @@
-use Rattle.casetext.specs.CaseText.{numberFrom, numberIn}
+use Rattle.casetext.specs.CaseText.{decimalFrom, numberIn}
 use Rattle.casetext.proofs.Reading.{number-turn, number-end}
 use lib.ListN.{take, drop}
 use mathlib.Core.Path.{_≡_, refl, sym, _∙_}
@@ -8,7 +8,7 @@ use Rattle.casetext.proofs.number.Statement.{statement}
 use Rattle.casetext.proofs.number.Tie as tie
 
 abbrev Inv-loop : tie.InvT-loop
-Inv-loop text from to n₀ i₀ n i = (n < 10000016) × (numberFrom n (take (to - i) (drop i text)) ≡ numberIn text from to)
+Inv-loop text from to n₀ i₀ n i = (n < 10000016) × (decimalFrom n (take (to - i) (drop i text)) ≡ numberIn text from to)
 
 abbrev μ-loop : tie.MeasureT-loop
 μ-loop text from to n₀ i₀ n i = to - i

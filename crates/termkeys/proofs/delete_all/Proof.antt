@@ -2,13 +2,13 @@ use Prim.Native.Nat.{ℕ, zero, suc, _≤_, _-_, _+_, _<_, _*_, _%_, _/_}
 use mathlib.Core.Path.{_≡_, refl, sym, ap, _∙_}
 use native.Mathlib.Omega.{arith}
 use lib.ListN.{length, getD, set, length-set}
-use Rattle.termkeys.specs.Fill.{delFill, tables, Same}
+use Rattle.termkeys.specs.Fill.{delFill, tables, SameLengths}
 use Rattle.termkeys.proofs.TermKeyLaws.{del-turn, del-end}
 use Rattle.termkeys.proofs.delete_all.Statement.{statement}
 use Rattle.termkeys.proofs.delete_all.Tie as tie
 
 abbrev Inv-loop : tie.InvT-loop
-Inv-loop link₀ label₀ s0₀ s1₀ s2₀ s3₀ ks n s i₀ link label s0 s1 s2 s3 i = (i ≤ n) × Same link label s0 s1 s2 s3 link₀ label₀ s0₀ s1₀ s2₀ s3₀ × (delFill (tables link₀ label₀ s0₀ s1₀ s2₀ s3₀) ks s n ≡ delFill (tables link label s0 s1 s2 s3) ks s i)
+Inv-loop link₀ label₀ s0₀ s1₀ s2₀ s3₀ ks n s i₀ link label s0 s1 s2 s3 i = (i ≤ n) × SameLengths link label s0 s1 s2 s3 link₀ label₀ s0₀ s1₀ s2₀ s3₀ × (delFill (tables link₀ label₀ s0₀ s1₀ s2₀ s3₀) ks s n ≡ delFill (tables link label s0 s1 s2 s3) ks s i)
 
 abbrev μ-loop : tie.MeasureT-loop
 μ-loop link₀ label₀ s0₀ s1₀ s2₀ s3₀ ks n s i₀ link label s0 s1 s2 s3 i = i

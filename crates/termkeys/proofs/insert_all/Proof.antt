@@ -3,13 +3,13 @@ use mathlib.Core.Path.{_≡_, refl, sym, ap, _∙_}
 use native.Mathlib.Omega.{arith}
 use lib.ListN.{length, getD, set, length-set}
 use lib.ListN.{drop}
-use Rattle.termkeys.specs.Fill.{insFill, tables, Same}
+use Rattle.termkeys.specs.Fill.{insFill, tables, SameLengths}
 use Rattle.termkeys.proofs.TermKeyLaws.{ins-turn, ins-end}
 use Rattle.termkeys.proofs.insert_all.Statement.{statement}
 use Rattle.termkeys.proofs.insert_all.Tie as tie
 
 abbrev Inv-loop : tie.InvT-loop
-Inv-loop link₀ label₀ s0₀ s1₀ s2₀ s3₀ ups ends ks₀ s i₀ link label s0 s1 s2 s3 ks i = (i ≤ length ups) × (length ks ≡ length ks₀) × Same link label s0 s1 s2 s3 link₀ label₀ s0₀ s1₀ s2₀ s3₀ × (insFill (tables link₀ label₀ s0₀ s1₀ s2₀ s3₀) ks₀ s 0 ups ends ≡ insFill (tables link label s0 s1 s2 s3) ks s i (drop i ups) (drop i ends))
+Inv-loop link₀ label₀ s0₀ s1₀ s2₀ s3₀ ups ends ks₀ s i₀ link label s0 s1 s2 s3 ks i = (i ≤ length ups) × (length ks ≡ length ks₀) × SameLengths link label s0 s1 s2 s3 link₀ label₀ s0₀ s1₀ s2₀ s3₀ × (insFill (tables link₀ label₀ s0₀ s1₀ s2₀ s3₀) ks₀ s 0 ups ends ≡ insFill (tables link label s0 s1 s2 s3) ks s i (drop i ups) (drop i ends))
 
 abbrev μ-loop : tie.MeasureT-loop
 μ-loop link₀ label₀ s0₀ s1₀ s2₀ s3₀ ups ends ks₀ s i₀ link label s0 s1 s2 s3 ks i = length ups - i

@@ -2,7 +2,7 @@ use Prim.Native.Nat.{ℕ, _-_, _^_, _≤_, _<_}
 use mathlib.Core.Path.{_≡_}
 use native.Mathlib.Omega.{arith}
 use lib.ListN.{length, getD, length-set}
-use Rattle.joining.specs.Masks.{one-shl}
+use Rattle.laws.specs.Digits.{one-shl}
 use Rattle.joining.proofs.LoopLaws.{filled}
 use Rattle.unify.proofs.start.Statement.{statement}
 use Rattle.unify.proofs.start.Tie as tie

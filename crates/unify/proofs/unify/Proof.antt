@@ -8,20 +8,20 @@ use Rattle.joining.specs.Classes.{reps}
 use Rattle.unify.specs.Face.{Faced}
 use Rattle.unify.specs.declared.Face.{Face}
 use Rattle.unify.specs.declared.Face.the-variants.{Same, Clash, Bind, Merge}
-use Rattle.joining.specs.Run.{Run, Led, run-start, run-end, run-same, run-clash, u-low, x-low, run-occurs, run-bind}
+use Rattle.joining.specs.Run.{UnifierState, Led, run-start, run-end, run-same, run-clash, u-low, x-low, run-occurs, run-bind}
 use Rattle.joining.specs.Arms.{run-merged, merged-falls}
 use Rattle.joining.proofs.LoopLaws.{zeros-at}
 use Rattle.unify.proofs.unify.Statement.{statement}
 use Rattle.unify.proofs.unify.Tie as tie
 
 abbrev Inv-loop : tie.InvT-loop
-Inv-loop sig pool root tab₀ masks₀ cls₀ stack₀ n₀ tab masks cls stack n = Run sig pool root stack n tab masks cls
+Inv-loop sig pool root tab₀ masks₀ cls₀ stack₀ n₀ tab masks cls stack n = UnifierState sig pool root stack n tab masks cls
 
 abbrev μ-loop : tie.MeasureT-loop
 μ-loop sig pool root tab₀ masks₀ cls₀ stack₀ n₀ tab masks cls stack n = 8 * reps cls + n
 
 -- the state with the top pair still on the stack
-top : (c : tie.In-loop Inv-loop μ-loop) → Run ((c .before .before .before .before .before .before .before .before) .args .sig .now) ((c .before .before .before .before .before .before .before .before) .args .pool .now) ((c .before .before .before .before .before .before .before .before) .args .root) ((c .before) .loop .stack) ((c .before) .loop .n - 1 + 1) ((c .before) .loop .tab) ((c .before) .loop .masks) ((c .before) .loop .cls)
+top : (c : tie.In-loop Inv-loop μ-loop) → UnifierState ((c .before .before .before .before .before .before .before .before) .args .sig .now) ((c .before .before .before .before .before .before .before .before) .args .pool .now) ((c .before .before .before .before .before .before .before .before) .args .root) ((c .before) .loop .stack) ((c .before) .loop .n - 1 + 1) ((c .before) .loop .tab) ((c .before) .loop .masks) ((c .before) .loop .cls)
 top c = let k : (c .before) .loop .n - 1 + 1 ≡ (c .before) .loop .n = omega (arith, (c .loop-test) .taken) in
     rw k ((c .before) .loop .inv)
 

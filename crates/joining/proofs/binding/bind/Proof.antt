@@ -1,7 +1,7 @@
 use borrow.Author.Needs.{needs}
 use mathlib.Core.Path.{_≡_, ap, _∙_}
 use native.Mathlib.Omega.{arith}
-use Rattle.joining.specs.Masks.{bit}
+use Rattle.laws.specs.Digits.{bit}
 use Rattle.joining.specs.Arms.{bound-circle, bound-free}
 use Rattle.joining.proofs.binding.bind.Statement.{statement}
 use Rattle.joining.proofs.binding.bind.Tie as tie

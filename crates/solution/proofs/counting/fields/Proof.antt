@@ -1,12 +1,12 @@
 use Prim.Native.Nat.{ℕ, _+_, _-_, _≤_}
 use mathlib.Core.Path.{_≡_, ap}
 use native.Mathlib.Omega.{arith}
-use Rattle.solution.specs.Totals.{countFrom, count-turn, count-end}
+use Rattle.solution.specs.Totals.{boundCount, count-turn, count-end}
 use Rattle.solution.proofs.counting.fields.Statement.{statement}
 use Rattle.solution.proofs.counting.fields.Tie as tie
 
 abbrev Inv-loop : tie.InvT-loop
-Inv-loop tab n₀ y₀ n y = (y ≤ 64) × (n ≤ y) × (n + countFrom tab (64 - y) y ≡ countFrom tab 64 0)
+Inv-loop tab n₀ y₀ n y = (y ≤ 64) × (n ≤ y) × (n + boundCount tab (64 - y) y ≡ boundCount tab 64 0)
 
 abbrev μ-loop : tie.MeasureT-loop
 μ-loop tab n₀ y₀ n y = 64 - y
@@ -35,7 +35,7 @@ loop-again c = let tab = (c .before .before .before .before) .args .tab .now in
     let t = (c .before .before .loop-test) .taken in
     let e = count-turn tab (64 - l .y) (l .y) (λ z. omega (arith, z, t)) in
     let j : 64 - l .y - 1 ≡ 64 - (l .y + 1) = omega arith in
-    (omega arith, omega (arith, l .inv .1, (c .present) .ensures .1), omega (arith, l .inv .2, e, (c .present) .ensures .0, ap (λ (k : ℕ). countFrom tab k (l .y + 1)) j))
+    (omega arith, omega (arith, l .inv .1, (c .present) .ensures .1), omega (arith, l .inv .2, e, (c .present) .ensures .0, ap (λ (k : ℕ). boundCount tab k (l .y + 1)) j))
 
 returns : tie.Need-returns Inv-loop μ-loop
 returns c = let l = (c .before) .loop in
