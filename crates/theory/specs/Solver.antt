@@ -105,7 +105,8 @@ module _ (ar : ℕ → ℕ) where
       pub even : app (full B) list ≡ app (full B) l
 
     -- bindings followed to the end at the head of the left list
-    unfoldable pub at-follow : (B : List Bind) (k x : ℕ) (u l m : List Item) → Has x u B → SolverAt B (suc k) (va x ∷ l) m
+    unfoldable pub at-follow : (B : List Bind) (k x : ℕ) (u l m : List Item) → Has x u B
+        → SolverAt B (suc k) (va x ∷ l) m
         → SolverAt B (suc k) (u ++ l) m
     at-follow B k x u l m h a = record {
       inv = step-follow ar s t B k x u l m h (values-has B (a .inv .values) x u h) (a .inv);
@@ -154,7 +155,8 @@ module _ (ar : ℕ → ℕ) where
     face-var B (suc d) k x l m e a = go (once-cases B x) (λ y e′ a′. face-var B d k y l m e′ a′)
       where
         go : Has x (once B x) B ⊎ (Unbound x B × (once B x ≡ vars x))
-            → ((y : ℕ) → FollowingEnds B d (vars y) → SolverAt B (suc k) (va y ∷ l) m → SolverFaced B (suc k) (va y ∷ l) m)
+            → ((y : ℕ) → FollowingEnds B d (vars y) → SolverAt B (suc k) (va y ∷ l) m
+            → SolverFaced B (suc k) (va y ∷ l) m)
             → SolverFaced B (suc k) (va x ∷ l) m
         go (inr h) ih = record { list = va x ∷ l; at = a; ready = h .0; even = refl }
         go (inl h) ih = face-bound B d k x (once B x) l m h (values-has B (a .inv .values) x (once B x) h)
@@ -174,7 +176,8 @@ module _ (ar : ℕ → ℕ) where
     -- x, with no binding, against a term u that is not x
     unfoldable pub at-bind : (B : List Bind) (k x : ℕ) (u l m : List Item) → Terms ar 1 u → Terms ar k m
         → Unbound x B → ¬ Occurs x (app (full B) u)
-        → ((y : ℕ) → app (full B) u ≡ vars y → y ≤ x) → SolverAt B (suc k) (va x ∷ l) (u ++ m) → SolverAt ((x := u) ∷ B) k l m
+        → ((y : ℕ) → app (full B) u ≡ vars y → y ≤ x) → SolverAt B (suc k) (va x ∷ l) (u ++ m)
+        → SolverAt ((x := u) ∷ B) k l m
     at-bind B k x u l m p q n c y a = record {
       inv = step-bind ar s t B k x u l m p q n c y (a .inv);
       lin = λ z i. a .lin z (inr i);
@@ -277,7 +280,8 @@ module _ (ar : ℕ → ℕ) where
         step B k (f .list) (g .list) (at-swap B k (g .list) (f .list) (g .at)) (f .ready) (g .ready) ih
         (λ k′ l′ m′ a′ c. by-size B ih z k′ l′ m′ a′ (omega (arith, ap length (f .even))))
 
-    unfoldable pub by-free : (n : ℕ) (B : List Bind) (k : ℕ) (l m : List Item) → SolverAt B k l m → free N B < n → SolverAnswer
+    unfoldable pub by-free : (n : ℕ) (B : List Bind) (k : ℕ) (l m : List Item) → SolverAt B k l m → free N B < n
+        → SolverAnswer
     by-free zero B k l m a b = absurd (omega arith)
     by-free (suc n) B k l m a b = by-size B (λ B′ k′ l′ m′ a′ c. by-free n B′ k′ l′ m′ a′ (omega arith))
         (suc (length (app (full B) l))) k l m a (omega arith)
