@@ -2,7 +2,6 @@
 use laws::VARIABLE;
 use laws::VARIABLE_END;
 use laws::number_at;
-use laws::wide;
 use refusals::Checked;
 use refusals::Refusal;
 use terms::arity;
@@ -59,7 +58,7 @@ fn brings(sig: &[u8], x: usize) -> usize
         × (r ≤ 4096) ⌝ }
 {
     if x < sig.len() {
-        return wide(sig[x]);
+        return arity(sig, x);
     }
     if x < VARIABLE {
         return 4096;

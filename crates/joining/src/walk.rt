@@ -1,6 +1,5 @@
 // Over the items of the pool: the arguments that follow one, and where a term ends.
 use laws::VARIABLE;
-use laws::wide;
 use laws::wide16;
 ghost use mathlib.Core.Path.{_≡_};
 ghost use Prim.Native.Nat.{_≤_, _<_};
@@ -15,7 +14,7 @@ pub fn opens(sig: &[u8], c: usize) -> usize
     ensures { λ r. ⌜ (r ≡ extra (now (sig .entry)) c) × (r < 256) ⌝ }
 {
     if c < VARIABLE {
-        if c < sig.len() { wide(sig[c]) } else { 0 }
+        terms::arity(sig, c)
     } else {
         0
     }

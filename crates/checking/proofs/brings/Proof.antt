@@ -4,14 +4,11 @@ use borrow.Author.Needs.{needs}
 use Rattle.checking.proofs.brings.Statement.{statement}
 use Rattle.checking.proofs.brings.Tie as tie
 
-shared-slice-read-wide : tie.Need-shared-slice-read-wide
-shared-slice-read-wide c = omega arith
-
-wide-requires : tie.Need-wide-requires
-wide-requires c κs = tt
+arity-requires : tie.Need-arity-requires
+arity-requires c κs = tt
 
 returns : tie.Need-returns
-returns c = let a = ((c .before .before .before .before) .args) in (brings-symbol (a .sig .now) (a .x) _ ((c .before .before .if1) .taken) ((c .wide) .ensures .0), omega arith)
+returns c = let a = (c .before .before .before) .args in (brings-symbol (a .sig .now) (a .x) _ ((c .before .if1) .taken) ((c .arity) .ensures .0), omega (arith, (c .arity) .ensures .1))
 
 returns-2 : tie.Need-returns-2
 returns-2 c = let a = ((c .before .before .before) .args) in (brings-low (a .sig .now) (a .x) ((c .before .if1) .left) ((c .if2) .taken), omega arith)
@@ -24,4 +21,4 @@ returns-4 c = let a = ((c .before .before .before .before) .args) in (brings-hig
 
 pub brings-spec : {M : Type 1} → statement M
 brings-spec =
-    tie.close (tie.spec shared-slice-read-wide wide-requires returns returns-2 returns-3 returns-4)
+    tie.close (tie.spec arity-requires returns returns-2 returns-3 returns-4)
