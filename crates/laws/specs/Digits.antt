@@ -1,7 +1,7 @@
 -- The binary digits of a number, and what the operations on words do to each. Serves SCOPE.md, 'Paths and keys': slot
 -- s is digit s mod 64 of its word.
-use Rattle.std.specs.Prelude.{ℕ, zero, suc, ◌+◌, ◌-◌, ◌*◌, ◌/◌, ◌%◌, ◌^◌, ◌≤◌, ◌<◌, min, max, ◌≡◌, refl}
-use Rattle.std.proofs.Common.{sym, ap, ◌∙◌, arith, mod-eq_of_lt, one-mul, pow-suc, div-one, one-add, pow-add, shr-shr}
+use Rattle.std.specs.Prelude.{ℕ, zero, suc, ◌+◌, ◌-◌, ◌*◌, ◌/◌, ◌%◌, ◌^◌, ◌<◌, min, max, ◌≡◌, refl}
+use Rattle.std.proofs.Common.{ap, ◌∙◌, arith, mod-eq_of_lt, one-mul, pow-suc, div-one, one-add, pow-add, shr-shr}
 use Rattle.std.proofs.Math.Decide.{ℕ_discrete, dec_lt}
 use Rattle.std.proofs.Math.Nat.{div-eq_of_lt, mul-mod_left}
 use Rattle.std.proofs.Math.Arith.{digits_mod}

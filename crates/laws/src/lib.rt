@@ -1,4 +1,6 @@
 // Numbers from one width to another, each with what it keeps. Laws of lists, parts and choices stand in proofs/.
+#![tactic(auto)]
+
 ghost use Rattle.std.specs.Prelude.{◌≡◌, ◌+◌, ◌*◌, ◌<◌, length, get_or};
 
 // Every size of the library, once (specs/Sizes.antt): slots, keys, the variables' numbers, the items of a value.

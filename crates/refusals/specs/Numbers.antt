@@ -4,7 +4,6 @@ use Rattle.std.specs.Prelude.{ℕ, ◌≡◌, refl, Bool, true, false, List, [],
 use Rattle.std.proofs.Common.{sym, ap, ◌∙◌, arith, ltb-true}
 use Rattle.laws.specs.Choice.{pick}
 use Rattle.refusals.specs.declared.Refusal.{Refusal}
-use Rattle.refusals.specs.declared.Refusal.TheVariants as Refusal
 use Rattle.refusals.specs.declared.Checked.{Checked}
 use Rattle.refusals.specs.declared.Checked.TheVariants.{Good, Refused}
 use Rattle.refusals.specs.Refusals.{number_of, checked_number}

@@ -1,4 +1,6 @@
 // The names of the refusals and their numbers; what a check answers (SCOPE.md, 'Numbers of refusal').
+#![tactic(auto)]
+
 ghost use Rattle.std.specs.Prelude.{◌≡◌};
 ghost use Rattle.refusals.specs.Refusals.{number_of, checked_number};
 

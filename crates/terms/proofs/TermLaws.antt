@@ -1,22 +1,21 @@
 use Prim.Native.Nat.{ℕ, zero, suc, ◌+◌, ◌-◌, ◌*◌, ◌≤◌, ◌<◌, min, ◌/◌, ◌%◌}
 use mathlib.Core.Path.{◌≡◌, refl, sym, ap, ◌∙◌}
 use mathlib.Core.Logic.{◌⊎◌, inl, inr, ⊎_elim}
-use mathlib.Core.List.{List, [], ◌∷◌, ◌++◌}
-use lib.ListN.{length, get_or, take, drop, length-take, length-drop, drop_of_length-le, get_or-eq_default}
-use lib.Seq.{take_all, drop-nil, drop-drop}
-use native.Mathlib.Nat.{add_assoc, zero-add, suc-add, add-suc}
-use native.Mathlib.Numerals.{one-add, add-one}
+use mathlib.Core.List.{List, [], ◌∷◌}
+use lib.ListN.{length, get_or, take, drop, length-drop, drop_of_length-le, get_or-eq_default}
+use lib.Seq.{drop-nil, drop-drop}
+use native.Mathlib.Nat.{add_assoc, zero-add, suc-add}
+use native.Mathlib.Numerals.{add-one}
 use native.Mathlib.Omega.{arith}
 use Rattle.terms.specs.Terms.{numbers, span, declared, items_good, arities_good, sig_refusal, Signed, refusal, first_item, arg_refusal, item_at}
 use Rattle.laws.specs.Choice.{pick}
 use Rattle.laws.proofs.Lists.{tail_part}
 use mathlib.Core.Bool.{Bool, true, false}
 use lib.Dec.{ltb, leb, eqb}
-use Rattle.refusals.specs.declared.Checked as Checked
 use Rattle.refusals.specs.declared.Checked.{Checked}
 use Rattle.refusals.specs.Refusals.{checked_number}
 use borrow.Author.Tests.{leb-true, le-leb, lt-leb, ltb-false, eqb-true, eqb-false, eq-eqb, ne_eqb, le-ltb, lt-ltb}
-use lib.Seq.{drop-cons, drop-length, get_or-drop}
+use lib.Seq.{drop-cons, get_or-drop}
 use native.Mathlib.Decide.{ℕ_discrete}
 use Rattle.laws.specs.Sizes.{variable_base, variable_end}
 use Rattle.terms.specs.Terms.{arity}

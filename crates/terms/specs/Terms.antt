@@ -1,6 +1,5 @@
 -- SCOPE.md, 'Term bytes' and refusals 2, 5 to 8 and 10, as functions on bytes.
-use Rattle.std.specs.Prelude.{ℕ, zero, suc, ◌+◌, ◌-◌, ◌*◌, ◌≤◌, ◌<◌, ◌%◌, min, ◌≡◌, refl, List, [], ◌∷◌, ◌++◌, length, get_or, take, drop, ltb, leb, eqb, Bool, true, false}
-use Rattle.std.proofs.Common.{sym, ap, ◌∙◌, arith}
+use Rattle.std.specs.Prelude.{ℕ, zero, suc, ◌+◌, ◌-◌, ◌*◌, ◌≤◌, ◌%◌, List, [], ◌∷◌, length, get_or, take, drop, ltb, leb, eqb, Bool, true, false}
 use Rattle.laws.specs.Choice.{pick}
 use Rattle.laws.specs.Sizes.{variable_base, variable_end}
 

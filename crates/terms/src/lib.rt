@@ -1,4 +1,6 @@
 // Symbols and items: arities, what is declared, the check of a signature (SCOPE.md, 'Term bytes').
+#![tactic(auto)]
+
 ghost use Rattle.std.specs.Prelude.{◌≡◌, ◌<◌};
 ghost use Rattle.refusals.specs.Refusals.{checked_number};
 ghost use Rattle.terms.specs.Terms.{arity as arity_of, declared as is_declared, arities_good, sig_refusal};
