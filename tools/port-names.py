@@ -77,13 +77,15 @@ def turn(path, new, final):
     prose = path.endswith(".md")
     # What the kit's script left of the old spelling: it turns no page and no must-fail edit.
     left = prose or path.endswith(".edit")
+    # A lemma of the library that this file imports.
+    stays = set(re.findall(r"[^\s{},]+", " ".join(re.findall(r"use Rattle\.std[^\s{]*\{([^}]*)\}", text))))
     out, at = [], 0
     for found in TOKEN.finditer(text):
         word = found[0]
         to = new.get(word)
         if left and to is None and (snake(word) in final or snake(word) in LEMMAS):
             to = snake(word) + ("_lem" if snake(word) in LEMMAS else "")
-        if to is None or to == word or word[0].isupper():
+        if to is None or to == word or word[0].isupper() or word in stays:
             continue
         # A Rust function's name, where a lemma is called so too.
         if snake(word) == word and not path.endswith(".antt"):

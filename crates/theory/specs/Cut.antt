@@ -30,14 +30,18 @@ module _ (ar : ℕ → ℕ) where
   first_terms zero k (i ∷ l) t = tt
   first_terms (suc j) k [] t = rw suc-add at t
   first_terms (suc j) k (va x ∷ l) t = first_terms j k l (rw suc-add at t)
-  first_terms (suc j) k (sy s ∷ l) t = first_terms (ar s + j) k l (rw (suc-add, ← add_assoc) at t)
+  first_terms (suc j) k (sy s ∷ l) t =
+      let u : Terms ar (ar s + (j + k)) l = rw suc-add at t in
+      first_terms (ar s + j) k l (rw (← add_assoc) at u)
 
   pub rest_terms : (j k : ℕ) (l : List Item) → Terms ar (j + k) l → Terms ar k (rest j l)
   rest_terms zero k [] t = rw zero-add at t
   rest_terms zero k (i ∷ l) t = rw zero-add at t
   rest_terms (suc j) k [] t = absurd (rw suc-add at t)
   rest_terms (suc j) k (va x ∷ l) t = rest_terms j k l (rw suc-add at t)
-  rest_terms (suc j) k (sy s ∷ l) t = rest_terms (ar s + j) k l (rw (suc-add, ← add_assoc) at t)
+  rest_terms (suc j) k (sy s ∷ l) t =
+      let u : Terms ar (ar s + (j + k)) l = rw suc-add at t in
+      rest_terms (ar s + j) k l (rw (← add_assoc) at u)
 
   pub first_append : (k : ℕ) (a b : List Item) → Terms ar k a → first k (a ++ b) ≡ a
   first_append zero [] [] t = refl

@@ -5,7 +5,7 @@
 use Rattle.std.specs.Prelude.{◌≡◌, ◌⊎◌, ◌≢◌, List, [], ◌∷◌, map, ℕ, suc}
 use Rattle.std.proofs.Math.Path.{refl}
 use Rattle.std.proofs.Common.{sym, ap, ◌∙◌, inl, inr, append-nil, arith}
-use Rattle.std.proofs.lemmas.List.{map_append}
+use Rattle.std.proofs.lemmas.List.{map-append}
 use Rattle.std.proofs.Math.Decide.{ℕ_discrete}
 use Rattle.theory.specs.Flat.{Item, sy, va, Terms}
 use Rattle.theory.specs.Subst.{vars, app, app_vars, app_agree, Occurs, in?, Sub}
@@ -87,7 +87,7 @@ module _ (ar : ℕ → ℕ) (s t : List Item) (θ : ℕ → List Item) (m : Mgu 
     mapped : (l : List Item) → map h l ≡ l → app (λ x. map h (θ x)) l ≡ map h (app θ l)
     mapped [] e = refl
     mapped (sy f ∷ l) e = let a : h (sy f) ≡ sy f = cc in let b : map h l ≡ l = cc in rw (a, mapped l b)
-    mapped (va x ∷ l) e = let b : map h l ≡ l = cc in rw (mapped l b) (sym (map_append h (θ x) (app θ l)))
+    mapped (va x ∷ l) e = let b : map h l ≡ l = cc in rw (mapped l b) (sym (map-append h (θ x) (app θ l)))
 
     pub kept : map h s ≡ s → map h t ≡ t → (x : ℕ) → map h (θ x) ≡ θ x
     kept a b x = sym (m.general (λ y. map h (θ y)) (λ y. ht 1 (θ y) (m.sub y)) (mapped s a ∙ ap (map h) m.unifies ∙ sym (mapped t b)) x)

@@ -226,6 +226,7 @@ module _ (ar : ℕ → ℕ) where
         stay = append-nil _ ∙ unbound y B o
 
         apart : Occurs x (vars y) → ⊥
+        apart (inr x'') = elim x'' [ ]
         apart (inl e) = omega arith
 
     unfoldable pub step : (B : List Bind) (k : ℕ) (l m : List Item) → SolverAt B k l m → Ready B l → Ready B m → Fewer B

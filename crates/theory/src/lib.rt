@@ -1,1 +1,3 @@
+#![tactic(auto)]
+
 // Terms, substitution, unification and matching as mathematics: all of it stands in specs/.
