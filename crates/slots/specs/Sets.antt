@@ -185,6 +185,7 @@ ascends_from a b [] h s = tt
 ascends_from a b (x ∷ l) h s = ((let q = s.0 in omega (arith, q)), s.1)
 
 ascends_least : (from x : ℕ) (l : List ℕ) → Ascends from l → In x l → from ≤ x
+ascends_least from x [] s x4 = elim x4 [ ]
 ascends_least from x (y ∷ l) s (inl e) = let q = s.0 in omega (arith, q, e)
 ascends_least from x (y ∷ l) s (inr i) = let q = s.0 in omega (arith, q, ascends_least (suc y) x l s.1 i)
 

@@ -1,0 +1,13 @@
+use borrow.Author.Rules.{rules}
+use Prim.Native.Nat.{ℕ, zero, suc, ◌≤◌, ◌-◌, ◌+◌, ◌<◌, ◌*◌, ◌%◌, ◌/◌}
+use mathlib.Core.Path.{◌≡◌, refl, sym, ap, ◌∙◌}
+use native.Mathlib.Omega.{arith}
+use lib.ListN.{length, get_or, set, length-set}
+use Rattle.chains.proofs.ChainLaws.{home_label, home_free}
+use Rattle.chains.proofs.home.Goals as goal
+
+pub returns-then-w-eq0 : goal.returns-then-w-eq0
+returns-then-w-eq0 c = (home_free _ c.if-w-eq0.true, omega arith, omega arith)
+
+pub returns : goal.returns
+returns c = (rw c.wide32.ensures.0 (home_label _ c.if-w-eq0.false), omega arith, omega arith)

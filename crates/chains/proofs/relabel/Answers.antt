@@ -1,0 +1,15 @@
+use borrow.Author.Rules.{rules}
+use Prim.Native.Nat.{ℕ, zero, suc, ◌≤◌, ◌-◌, ◌+◌, ◌<◌, ◌*◌, ◌%◌, ◌/◌}
+use mathlib.Core.Path.{◌≡◌, refl, sym, ap, ◌∙◌}
+use native.Mathlib.Omega.{arith}
+use lib.ListN.{length, get_or, set, length-set}
+use Rattle.chains.proofs.ChainLaws.{relinked_is}
+use Rattle.chains.proofs.relabel.Goals as goal
+
+pub bounds-link-at-2 : goal.bounds-link-at-2
+bounds-link-at-2 c = simp length-set (omega arith)
+
+pub returns : goal.returns
+returns c = let a = c.args in
+    let j = c.wide16-j.ensures.0 in
+    (relinked_is _ _ _ _ _ _ _ _ j c.home-old.ensures.0 c.unlink.ensures c.home-at.ensures.0, rw j)

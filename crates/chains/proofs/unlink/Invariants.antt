@@ -1,0 +1,15 @@
+use borrow.Author.Rules.{rules}
+use Prim.Native.Nat.{ℕ, zero, suc, ◌≤◌, ◌-◌, ◌+◌, ◌<◌, ◌*◌, ◌%◌, ◌/◌}
+use mathlib.Core.Path.{◌≡◌, refl, sym, ap, ◌∙◌}
+use native.Mathlib.Omega.{arith}
+use lib.ListN.{length, get_or, set, length-set}
+use Rattle.chains.specs.Chains.{unlink}
+use Rattle.chains.proofs.ChainLaws.{unlink_hit, unlink_miss, unlink_none, unlink_out}
+use Rattle.laws.specs.Sizes.{key_limit, link_length}
+use Rattle.chains.proofs.unlink.Given as goal
+
+abbrev pub invariant-loop-fuel : goal.invariant-loop-fuel
+invariant-loop-fuel l = (l.link ≡ l.initial.link) × (l.fuel ≤ key_limit) × (l.at < link_length) × (length l.link ≡ length l.initial.link) × (unlink l.initial.link l.k key_limit l.from (get_or l.initial.link l.from 0) ≡ unlink l.initial.link l.k l.fuel l.at (get_or l.initial.link l.at 0))
+
+abbrev pub decreases-loop-fuel : goal.decreases-loop-fuel
+decreases-loop-fuel l = l.fuel

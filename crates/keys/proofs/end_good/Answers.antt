@@ -1,0 +1,11 @@
+use borrow.Author.Tests.{lt-ltb, le-ltb}
+use Rattle.keys.specs.Bytes.{end_good}
+use Rattle.keys.proofs.end_good.Goals as goal
+
+pub returns-then-x-sig : goal.returns-then-x-sig
+unfolding end_good
+returns-then-x-sig c = simp (lt-ltb _ _ c.if-x-sig.true)
+
+pub returns : goal.returns
+unfolding end_good
+returns c = simp (le-ltb _ _ c.if-x-sig.false)
