@@ -2,7 +2,7 @@
 -- values that are terms by the arities, where a symbol that is not declared has arity 0. Here: such symbols change
 -- nothing. Terms that stand in a relation do so by a substitution with declared symbols alone, and the recorded
 -- unifier has no others.
-use Rattle.std.specs.Prelude.{ℕ, zero, suc, ◌+◌, ◌*◌, ◌≤◌, ◌<◌, ◌≡◌, ◌↔◌, Bool, leb, get_or}
+use Rattle.std.specs.Prelude.{ℕ, zero, suc, ◌+◌, ◌*◌, ◌≤◌, ◌<◌, ◌≡◌, ◌↔◌, Bool, leb}
 use Rattle.std.proofs.Math.Decide.{dec_lt}
 use native.Mathlib.Omega.{arith}
 use Rattle.std.proofs.Math.Path.{refl}
