@@ -1,4 +1,6 @@
 // The three kinds of variable (SCOPE.md, 'Term bytes'). A stored number and a question number meet only as written.
+#![tactic(auto)]
+
 ghost use Rattle.std.specs.Prelude.{◌≡◌, ◌+◌, ◌≤◌, ◌<◌};
 ghost use Rattle.variables.specs.Sides.{StandsFor, OfItem};
 ghost use Rattle.laws.specs.Sizes.{variable_base, variable_end, written_end};
