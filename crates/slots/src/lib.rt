@@ -6,7 +6,7 @@ ghost use Rattle.slots.specs.Slots.{has, inserted, removed};
 
 use laws::{SLOTS, USED};
 
-#[derive(Drop)]
+#[derive(Clone, Copy)]
 pub struct SlotSet {
     pub words: [u64; 8],
 }

@@ -1,6 +1,0 @@
-// The fields of an operation log (SCOPE.md, 'The log program').
-mod field;
-mod reader;
-
-pub use field::{Field, field_at};
-pub use reader::{Reader, Taken, read, take_at};
