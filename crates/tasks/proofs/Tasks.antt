@@ -13,12 +13,12 @@ use lib.Seq.{length-take-le}
 use Rattle.laws.specs.Choice.{pick}
 use Rattle.laws.proofs.Lists.{part_rest}
 use Rattle.laws.specs.Sizes.{input_limit}
-use Rattle.log.specs.declared.field.Field.{Field}
-use Rattle.log.specs.declared.field.Field.TheVariants.{End, Cut, Whole}
-use Rattle.log.specs.declared.reader.Taken.{Taken}
-use Rattle.log.specs.Fields.{field_at}
-use Rattle.log.specs.Reading.{place_after, taken_at}
-use Rattle.log.proofs.Fields.{TakenWhole, taken_whole, past_within}
+use Rattle.logfields.specs.declared.field.Field.{Field}
+use Rattle.logfields.specs.declared.field.Field.TheVariants.{End, Cut, Whole}
+use Rattle.logfields.specs.declared.reader.Taken.{Taken}
+use Rattle.logfields.specs.Fields.{field_at}
+use Rattle.logfields.specs.Reading.{place_after, taken_at}
+use Rattle.logfields.proofs.Fields.{TakenWhole, taken_whole, past_within}
 use Rattle.calls.specs.declared.Order.{Order}
 use Rattle.calls.specs.declared.Order.TheVariants.{Open, Insert, Delete, WithKey, Retrieve, Solve, Nothing}
 use Rattle.tasks.specs.Operations.{Operation, first_operation, later_operation, delete_operation, retrieve_operation, solve_operation, payload, operation_in}

@@ -4,8 +4,8 @@ use Rattle.std.specs.Prelude.{ℕ, ◌≤◌, ◌≡◌, List, ltb, eqb, length,
 use Rattle.std.proofs.Math.Option.{Option, some, none}
 use Rattle.laws.specs.Choice.{pick}
 use Rattle.laws.specs.Sizes.{input_limit}
-use Rattle.log.specs.Fields.{field_at}
-use Rattle.log.specs.Reading.{place_after}
+use Rattle.logfields.specs.Fields.{field_at}
+use Rattle.logfields.specs.Reading.{place_after}
 use Rattle.calls.specs.declared.Order.{Order}
 use Rattle.calls.specs.declared.Order.TheVariants.{Open, Insert, Delete, WithKey, Retrieve, Solve, Nothing}
 use Rattle.tasks.specs.Operations.{Operation, to_open, to_insert, to_delete, to_retrieve, to_solve, operation_in}

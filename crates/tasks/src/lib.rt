@@ -8,7 +8,7 @@ ghost use Rattle.tasks.specs.Ordered.{fixed_part, InLog, operation_of, Ordered, 
 
 use calls::Order;
 use laws::{INPUT, number_at, wide};
-use log::Field;
+use logfields::Field;
 
 // An order, where the rest of its payload starts and ends, which is where the next field starts.
 #[derive(Drop)]
@@ -105,7 +105,7 @@ pub fn task_at(input: &[u8], at: usize) -> Task
             end: input.len(),
         };
     }
-    let taken = log::read(input, at);
+    let taken = logfields::read(input, at);
     let field = taken.field;
     let end = taken.place;
     match field {

@@ -17,8 +17,8 @@ use Rattle.definitions.specs.Decisions.{same?, stands, bindings?}
 use Rattle.definitions.specs.Answers.{long_from}
 use Rattle.library.specs.Store.{slots_from, in_use, free_from, put, place?, key?, keys_from, distinct, candidates, answers}
 use Rattle.library.specs.Store.{answered, empty, after}
-use Rattle.log.specs.Fields.{field_at}
-use Rattle.log.specs.Reading.{field_before, fields_within, fields_from}
+use Rattle.logfields.specs.Fields.{field_at}
+use Rattle.logfields.specs.Reading.{field_before, fields_within, fields_from}
 use Rattle.lines.specs.Lines.{digits, decimal, hex, slot_list, record_text, plain_line, refused_line, slot_line, found_line}
 use Rattle.lines.specs.Lines.{solved_line}
 use Rattle.tasks.specs.Operations.{first_operation, later_operation}

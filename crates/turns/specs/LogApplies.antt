@@ -11,12 +11,12 @@ use Rattle.laws.specs.Sizes.{input_limit, answer_room}
 use Rattle.terms.specs.Terms.{sig_refusal}
 use Rattle.definitions.specs.Answers.{Answer, refused, done, unless}
 use Rattle.library.specs.Store.{Store, open_with, answered}
-use Rattle.log.specs.Fields.{field_at}
+use Rattle.logfields.specs.Fields.{field_at}
 use Rattle.lines.specs.Lines.{digits, decimal, plain_line, refused_line, slot_line, found_line, solved_line}
-use Rattle.log.specs.Reading.{place_after, field_before, fields_within, fields_from, fields_of, field_or}
-use Rattle.log.specs.declared.field.Field.{Field}
-use Rattle.log.specs.declared.field.Field.TheVariants.{End, Cut, Whole}
-use Rattle.log.proofs.Fields.{field_inside}
+use Rattle.logfields.specs.Reading.{place_after, field_before, fields_within, fields_from, fields_of, field_or}
+use Rattle.logfields.specs.declared.field.Field.{Field}
+use Rattle.logfields.specs.declared.field.Field.TheVariants.{End, Cut, Whole}
+use Rattle.logfields.proofs.Fields.{field_inside}
 use Rattle.tasks.specs.Operations.{Operation, to_open, to_insert, to_delete, to_retrieve, to_solve, first_operation}
 use Rattle.tasks.specs.Operations.{delete_operation, retrieve_operation, solve_operation, later_operation, payload}
 use Rattle.tasks.specs.Operations.{operation_in}

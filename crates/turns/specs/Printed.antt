@@ -8,8 +8,8 @@ use Rattle.laws.specs.Choice.{pick}
 use Rattle.laws.specs.Sizes.{input_limit, answer_room}
 use Rattle.definitions.specs.Answers.{Answer, refused, done, unless}
 use Rattle.library.specs.Store.{Store, Call, open_with, insert, delete, retrieve, solve, answered, empty, after}
-use Rattle.log.specs.declared.field.Field.{Field}
-use Rattle.log.specs.Reading.{fields_of}
+use Rattle.logfields.specs.declared.field.Field.{Field}
+use Rattle.logfields.specs.Reading.{fields_of}
 use Rattle.lines.specs.Lines.{plain_line, refused_line, slot_line, found_line, solved_line}
 use Rattle.tasks.specs.Operations.{Operation, to_open, to_insert, to_delete, to_retrieve, to_solve, operation_in}
 use Rattle.answerlines.specs.Words.{word_of, log_word}

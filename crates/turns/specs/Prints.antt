@@ -28,13 +28,13 @@ use Rattle.meaning.specs.CallsMean.{call_means}
 use Rattle.meaning.specs.Changing.{signature_two}
 use Rattle.meaning.specs.Opening.{open_number, open_run}
 use Rattle.meaning.specs.Told.{front_bytes}
-use Rattle.log.specs.declared.field.Field.{Field}
-use Rattle.log.specs.declared.field.Field.TheVariants.{End, Cut, Whole}
-use Rattle.log.specs.Fields.{field_at, length_at}
-use Rattle.log.specs.Reading.{place_after, taken_at, field_before, fields_from, fields_of}
+use Rattle.logfields.specs.declared.field.Field.{Field}
+use Rattle.logfields.specs.declared.field.Field.TheVariants.{End, Cut, Whole}
+use Rattle.logfields.specs.Fields.{field_at, length_at}
+use Rattle.logfields.specs.Reading.{place_after, taken_at, field_before, fields_from, fields_of}
 use Rattle.lines.specs.Lines.{Put, refused_line, plain_line}
-use Rattle.log.proofs.Fields.{field_end, taken_onward}
-use Rattle.log.proofs.Reading.{next_first}
+use Rattle.logfields.proofs.Fields.{field_end, taken_onward}
+use Rattle.logfields.proofs.Reading.{next_first}
 use Rattle.tasks.specs.Operations.{Operation, to_open, to_insert, to_delete, to_retrieve, to_solve, first_operation}
 use Rattle.tasks.specs.Operations.{delete_operation, retrieve_operation, solve_operation, later_operation, payload}
 use Rattle.tasks.specs.Operations.{operation_in}

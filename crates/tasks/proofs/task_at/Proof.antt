@@ -1,6 +1,6 @@
 use native.Mathlib.Omega.{arith}
 use mathlib.Core.Path.{refl}
-use Rattle.log.proofs.Fields.{taken_whole}
+use Rattle.logfields.proofs.Fields.{taken_whole}
 use Rattle.tasks.proofs.Tasks.{task_long, task_none, task_whole}
 use borrow.Author.Rules.{rules}
 use Rattle.tasks.proofs.task_at.Statement.{statement}

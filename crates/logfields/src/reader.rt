@@ -1,7 +1,7 @@
 // A reader of a log: the log's slice and the place of its next field (SCOPE.md, 'The log program').
-// Each function over the struct is thin, and proved by hand; `take_at` does the work.
+// Each function over the struct is thin; `take_at` does the work.
 ghost use Rattle.std.specs.Prelude.{◌≡◌, ◌<◌, ◌^◌, length, leb};
-ghost use Rattle.log.specs.Reading.{past, taken_at};
+ghost use Rattle.logfields.specs.Reading.{past, taken_at};
 
 use crate::field::{Field, field_at};
 
@@ -83,7 +83,7 @@ impl<'a> Reader<'a> {
     }
 }
 
-// One field of a log, through a reader: no caller of it sees the struct, and so none is proved by hand.
+// One field of a log, through a reader: no caller of it sees the struct.
 pub fn read(log: &[u8], at: usize) -> Taken
     ensures { result ≡ taken_at log.now at }
 {

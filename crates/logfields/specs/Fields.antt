@@ -1,8 +1,8 @@
 -- SCOPE.md, 'The log program': the field that starts at a place of the input.
 use Rattle.std.specs.Prelude.{ℕ, ◌+◌, ◌-◌, ◌*◌, List, length, get_or, ltb, leb}
 use Rattle.laws.specs.Choice.{pick}
-use Rattle.log.specs.declared.field.Field.{Field}
-use Rattle.log.specs.declared.field.Field.TheVariants.{End, Cut, Whole}
+use Rattle.logfields.specs.declared.field.Field.{Field}
+use Rattle.logfields.specs.declared.field.Field.TheVariants.{End, Cut, Whole}
 
 -- the length that the second and third byte of a field say
 abbrev pub length_at : List ℕ → ℕ → ℕ

@@ -1,4 +1,6 @@
 // The fields of an operation log (SCOPE.md, 'The log program').
+#![tactic(auto)]
+
 mod field;
 mod reader;
 

@@ -1,9 +1,9 @@
 -- SCOPE.md, 'The log program': the fields of a log, one after another.
 use Rattle.std.specs.Prelude.{ℕ, zero, suc, ◌+◌, ◌-◌, List, [], ◌∷◌, length}
-use Rattle.log.specs.Fields.{field_at}
-use Rattle.log.specs.declared.field.Field.{Field}
-use Rattle.log.specs.declared.field.Field.TheVariants.{End, Cut, Whole}
-use Rattle.log.specs.declared.reader.Taken.{Taken}
+use Rattle.logfields.specs.Fields.{field_at}
+use Rattle.logfields.specs.declared.field.Field.{Field}
+use Rattle.logfields.specs.declared.field.Field.TheVariants.{End, Cut, Whole}
+use Rattle.logfields.specs.declared.reader.Taken.{Taken}
 
 -- where the field after a field starts: past its payload; after a cut field nothing is read, nor after the end
 abbrev pub past : Field → ℕ → ℕ

@@ -1,14 +1,14 @@
 -- Laws of a log's fields: each field that is taken is the first of those that are left.
-use Prim.Native.Nat.{ℕ, zero, suc, ◌+◌, ◌-◌, ◌≤◌, ◌<◌}
+use Prim.Native.Nat.{ℕ, zero, suc, ◌-◌, ◌≤◌, ◌<◌}
 use mathlib.Core.Path.{◌≡◌, refl, sym, ap, ◌∙◌}
 use mathlib.Core.List.{List, [], ◌∷◌}
 use native.Mathlib.Omega.{arith}
 use lib.ListN.{length}
-use Rattle.log.specs.Fields.{field_at}
-use Rattle.log.specs.Reading.{past, place_after, field_before, fields_within, fields_from, fields_of, field_or, place_of}
-use Rattle.log.specs.declared.field.Field.{Field}
-use Rattle.log.specs.declared.field.Field.TheVariants.{End, Cut, Whole}
-use Rattle.log.proofs.Fields.{field_end, field_inside}
+use Rattle.logfields.specs.Fields.{field_at}
+use Rattle.logfields.specs.Reading.{past, place_after, field_before, fields_within, fields_from, field_or, place_of}
+use Rattle.logfields.specs.declared.field.Field.{Field}
+use Rattle.logfields.specs.declared.field.Field.TheVariants.{End, Cut, Whole}
+use Rattle.logfields.proofs.Fields.{field_end, field_inside}
 
 -- nothing is left at the end
 within_done : (k : ℕ) (s : List ℕ) (at : ℕ) → length s ≤ at → fields_within k s at ≡ []

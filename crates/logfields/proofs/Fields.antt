@@ -1,17 +1,16 @@
 -- Laws of the field at a place: what each answer of the tests is, and what a whole field says of the input.
-use Prim.Native.Nat.{ℕ, ◌+◌, ◌-◌, ◌*◌, ◌≤◌, ◌<◌}
+use Prim.Native.Nat.{ℕ, ◌+◌, ◌-◌, ◌≤◌, ◌<◌}
 use mathlib.Core.Path.{◌≡◌, refl, sym, ap, ◌∙◌}
-use mathlib.Core.Bool.{Bool, true, false}
 use mathlib.Core.List.{List}
 use native.Mathlib.Omega.{arith}
 use native.Mathlib.Decide.{dec_le, dec_lt}
 use lib.ListN.{length, get_or}
 use borrow.Author.Tests.{le-leb, lt-leb, lt-ltb, le-ltb}
-use Rattle.log.specs.Fields.{field_at, length_at}
-use Rattle.log.specs.Reading.{past, place_after, taken_at}
-use Rattle.log.specs.declared.reader.Taken.{Taken}
-use Rattle.log.specs.declared.field.Field.{Field}
-use Rattle.log.specs.declared.field.Field.TheVariants.{End, Cut, Whole}
+use Rattle.logfields.specs.Fields.{field_at, length_at}
+use Rattle.logfields.specs.Reading.{past, place_after, taken_at}
+use Rattle.logfields.specs.declared.reader.Taken.{Taken}
+use Rattle.logfields.specs.declared.field.Field.{Field}
+use Rattle.logfields.specs.declared.field.Field.TheVariants.{End, Cut, Whole}
 
 pub field_end : (s : List ℕ) (at : ℕ) → length s ≤ at → End ≡ field_at s at
 unfolding field_at

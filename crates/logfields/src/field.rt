@@ -1,11 +1,11 @@
 // The field that starts at a place of the input.
 ghost use Rattle.std.specs.Prelude.{◌≡◌};
-ghost use Rattle.log.specs.Fields.{field_at};
+ghost use Rattle.logfields.specs.Fields.{field_at};
 
 use laws::wide;
 
 // What stands at a place: nothing more, a cut field, or a whole one, whose payload is `length` bytes from `start` on.
-#[derive(Drop)]
+#[derive(Clone, Copy)]
 pub enum Field {
     End,
     Cut,
