@@ -1,4 +1,6 @@
 // The algebra of sets of slots: both, either, the others, none (SCOPE.md, 'Paths and keys').
+#![tactic(auto)]
+
 ghost use Rattle.std.specs.Prelude.{◌≡◌};
 ghost use Rattle.slots.specs.Slots.{both, either, others, none_in};
 

@@ -1,8 +1,8 @@
 -- Serves SCOPE.md, 'Store' ('freed keys are used again'): chains of keys through one table of links: link[k] for a
 -- key k below 4,096, and from 4,096 on where each chain starts. A link is 0 at a chain's end, else one more than the
 -- key.
-use Rattle.std.specs.Prelude.{ℕ, zero, suc, ◌+◌, ◌%◌, ◌≤◌, ◌<◌, ◌≡◌, refl, ◌⊎◌, ◌↔◌, List, [], ◌∷◌, ◌++◌, Bool, true, false, eqb, length, get_or, set}
-use Rattle.std.proofs.Common.{sym, ap, ◌∙◌, inl, inr, ⊎_elim, arith, mod-eq_of_lt, eq-eqb, ne_eqb, length-set, get_or-set_same, get_or-set_other}
+use Rattle.std.specs.Prelude.{ℕ, zero, suc, ◌+◌, ◌%◌, ◌≤◌, ◌<◌, ◌≡◌, refl, List, [], ◌∷◌, Bool, true, false, eqb, length, get_or, set}
+use Rattle.std.proofs.Common.{sym, subst, ap, ◌∙◌, inl, inr, ⊎_elim, arith, mod-eq_of_lt, eq-eqb, ne_eqb, length-set, get_or-set_same, get_or-set_other}
 use Rattle.std.proofs.Math.Decide.{ℕ_discrete}
 use Rattle.laws.specs.Members.{In, NoDup, nodup_bound}
 use Rattle.laws.specs.Choice.{pick}
@@ -59,7 +59,8 @@ found_sound link label w (suc f) x xs end b h = absurd (omega arith)
 found_sound link label w (suc f) x xs (one {k = k} {xs = ys} l) b h =
     let e : k % key_limit ≡ k = mod-eq_of_lt (b k (inl refl)) in
     let h' = rw e at h in
-    rw e (go (ℕ_discrete (get_or label k 0) w) h' (found_sound link label w f (get_or link k 0) ys l (λ j i. b j (inr i))))
+    let s : found_from link label w (suc f) (suc k) ≡ pick (eqb (get_or label k 0) w) k r = rw e in
+    subst P (sym s) (go (ℕ_discrete (get_or label k 0) w) h' (found_sound link label w f (get_or link k 0) ys l (λ j i. b j (inr i))))
   where
     r : ℕ
     r = found_from link label w f (get_or link k 0)
@@ -69,7 +70,10 @@ found_sound link label w (suc f) x xs (one {k = k} {xs = ys} l) b h =
 
     go : Dec (get_or label k 0 ≡ w) → pick (eqb (get_or label k 0) w) k r < key_limit → (r < key_limit → In r ys × (get_or label r 0 ≡ w)) → P (pick (eqb (get_or label k 0) w) k r)
     go (yes e) g ih = rw (eq-eqb _ _ e) (inl refl, e)
-    go (no n) g ih = let g' = rw (ne_eqb _ _ n) at g in rw (ne_eqb _ _ n) (inr (ih g').0, (ih g').1)
+    go (no n) g ih =
+        let e : pick (eqb (get_or label k 0) w) k r ≡ r = rw (ne_eqb _ _ n) in
+        let g' = rw e at g in
+        subst P (sym e) (inr (ih g').0, (ih g').1)
 
 pub found_complete : (link label : List ℕ) (w f x : ℕ) (xs : List ℕ) → Linked link x xs → ((k : ℕ) → In k xs → k < key_limit)
     → length xs ≤ f → (k : ℕ) → In k xs → get_or label k 0 ≡ w → found_from link label w f x < key_limit

@@ -1,4 +1,6 @@
 // Keys by their labels: chains through a table of links.
+#![tactic(auto)]
+
 ghost use Rattle.std.specs.Prelude.{◌≡◌, ◌+◌, ◌-◌, ◌*◌, ◌%◌, ◌≤◌, ◌<◌, suc, length, get_or, set};
 ghost use Rattle.chains.specs.Chains.{home as home_of, find as find_of, unlink as unlink_of};
 ghost use Rattle.chains.specs.Chains.{taken, pushed, relinked, longer};

@@ -1,4 +1,6 @@
 // The check of a term, and the walk to a term's end (SCOPE.md, 'Term bytes').
+#![tactic(auto)]
+
 ghost use Rattle.std.specs.Prelude.{◌≡◌, ◌+◌, ◌*◌, ◌≤◌, min, eqb, length};
 ghost use Rattle.laws.specs.Choice.{pick};
 ghost use Rattle.refusals.specs.Refusals.{checked_number};

@@ -6,7 +6,6 @@ use Rattle.std.proofs.Math.Option.{Option, some, none}
 use Rattle.laws.specs.Choice.{pick}
 use Rattle.slots.specs.Slots.{listed}
 use Rattle.refusals.specs.declared.Refusal.{Refusal}
-use Rattle.refusals.specs.declared.Refusal.TheVariants as Refusal
 use Rattle.refusals.specs.Refusals.{number_of}
 use Rattle.theory.specs.Flat.{Item}
 use Rattle.theory.specs.Unify.{Bind, full}

@@ -1,7 +1,7 @@
 -- SCOPE.md, 'Term bytes' and the table of 'Numbers of refusal': when 2, 5 to 8 and 10 apply, in that table's words.
 -- FirstRefusal.antt proves that the numbers which Terms of terms computes are the first in rank of those that apply,
 -- and 0 where none does.
-use Rattle.std.specs.Prelude.{ℕ, suc, ◌+◌, ◌≤◌, ◌<◌, ◌%◌, ◌≡◌, ◌⊎◌, List, [], ◌∷◌, ◌++◌, length, get_or}
+use Rattle.std.specs.Prelude.{ℕ, suc, ◌≤◌, ◌<◌, ◌%◌, ◌≡◌, ◌⊎◌, List, [], ◌∷◌, ◌++◌, length}
 use Rattle.laws.specs.Members.{In}
 use Rattle.refusals.specs.declared.Refusal.TheVariants as Refusal
 use Rattle.terms.specs.Terms.{numbers, first_item}

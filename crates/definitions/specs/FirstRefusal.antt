@@ -1,6 +1,6 @@
 -- SCOPE.md, 'Numbers of refusal' ('the first in rank is given'): the numbers that Terms of terms computes are the
 -- first in rank whose condition holds (Conditions.antt); on the way: what the walk counts is k terms in a row.
-use Rattle.std.specs.Prelude.{ℕ, zero, suc, ◌+◌, ◌-◌, ◌*◌, ◌≤◌, ◌<◌, ◌%◌, ◌≡◌, ◌⊎◌, List, [], ◌∷◌, ◌++◌, true, false, get_or}
+use Rattle.std.specs.Prelude.{ℕ, zero, suc, ◌+◌, ◌*◌, ◌≤◌, ◌<◌, ◌%◌, ◌≡◌, ◌⊎◌, List, [], ◌∷◌, ◌++◌, true, false}
 use Rattle.std.proofs.Math.Path.{refl}
 use Rattle.std.proofs.Common.{sym, ap, ◌∙◌, inl, inr, ⊎_elim, append-nil, append_assoc, zero-add, suc-add, length-append}
 use native.Mathlib.Omega.{arith}

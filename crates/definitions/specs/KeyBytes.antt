@@ -1,7 +1,7 @@
 -- SCOPE.md, 'Paths and keys': a key as bytes, 'steps of three bytes (symbol item, argument number) and then two
 -- bytes, a symbol or 0xFFFF for the star'. In a Key arguments are numbered from 0 and the star is 256.
 use Prim.Native.Nat.{ℕ, suc, ◌+◌, ◌-◌, ◌*◌, ◌/◌, ◌%◌, ◌≤◌, ◌<◌}
-use Rattle.std.specs.Prelude.{◌≡◌, ◌⊎◌, Bool, ltb, leb, get_or}
+use Rattle.std.specs.Prelude.{◌≡◌, ◌⊎◌, Bool, ltb, leb}
 use Rattle.std.proofs.Math.Path.{refl, ap}
 use Rattle.std.proofs.Common.{sym, ◌∙◌, inl, inr}
 use Rattle.std.proofs.Math.Logic.{⊎_elim}

@@ -1,6 +1,6 @@
 -- From trees to flat lists of items: candidates of trees are candidates of lists, and whatever substitutions make the
 -- same is a candidate. Devices of Linear's proof (SCOPE.md, 'The relations themselves').
-use Rattle.std.specs.Prelude.{ℕ, suc, ◌+◌, ◌-◌, ◌<◌, ◌≡◌, refl, ◌⊎◌, Bool, true, false, T, eqb, get_or}
+use Rattle.std.specs.Prelude.{ℕ, suc, ◌+◌, ◌-◌, ◌<◌, ◌≡◌, refl, ◌⊎◌, Bool, true, false, T, eqb}
 use Rattle.std.proofs.Common.{sym, ◌∙◌, zero-add, suc-add, arith, leb-true, le-leb, le-ltb, lt-ltb, eqb-true, eq-eqb}
 use Rattle.std.proofs.Math.Path.{ap}
 use Rattle.std.proofs.Math.Logic.{inl, inr}

@@ -43,12 +43,14 @@ ranked (row w A l) = pick (before (number_of w) l) (ranked l) false
 ranked (part l r) = pick (across l r) (ranked r) false
 
 pub before_all : (n : ℕ) (l : Rows) → before n l ≡ true → (m : ℕ) → AppliesIn l m → rank n ≤ rank m
+before_all n end h m a = elim a [ ]
 before_all n (row w A l) h m (inl p) = rw p.0 (leb-true (rank n) (rank (number_of w)) (taken (leb (rank n) (rank (number_of w))) (before n l) h).0)
 before_all n (row w A l) h m (inr p) = before_all n l (taken (leb (rank n) (rank (number_of w))) (before n l) h).1 m p
 before_all n (part l r) h m (inl p) = before_all n l (taken (before n l) (before n r) h).0 m p
 before_all n (part l r) h m (inr p) = before_all n r (taken (before n l) (before n r) h).1 m p
 
 across_all : (l r : Rows) → across l r ≡ true → (k m : ℕ) → AppliesIn l k → AppliesIn r m → rank k ≤ rank m
+across_all end r h k m p q = elim p [ ]
 across_all (row w A l) r h k m (inl p) q = rw p.0 (before_all (number_of w) r (taken (before (number_of w) r) (across l r) h).0 m q)
 across_all (row w A l) r h k m (inr p) q = across_all l r (taken (before (number_of w) r) (across l r) h).1 k m p q
 across_all (part a b) r h k m (inl p) q = across_all a r (taken (across a r) (across b r) h).0 k m p q
@@ -99,6 +101,7 @@ abbrev pub NumberNamed : ℕ → Type 0
 NumberNamed n = (why : Refusal) × (n ≡ number_of why)
 
 pub applies_named : (l : Rows) (m : ℕ) → AppliesIn l m → NumberNamed m
+applies_named end m p = elim p [ ]
 applies_named (row w A l) m (inl p) = (w, p.0)
 applies_named (row w A l) m (inr p) = applies_named l m p
 applies_named (part l r) m p = ⊎_elim (applies_named l m) (applies_named r m) p

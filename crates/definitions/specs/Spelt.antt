@@ -3,7 +3,7 @@
 use Prim.Native.Nat.{ℕ, zero, suc, ◌+◌, ◌-◌, ◌*◌, ◌%◌, ◌≤◌, ◌<◌}
 use Rattle.std.proofs.Math.Path.{◌≡◌, refl, sym, ap}
 use Rattle.std.proofs.Common.{◌∙◌, add-zero, zero-add, suc-add}
-use Rattle.std.specs.Prelude.{◌⊎◌, ◌↔◌, Bool, leb, get_or, take}
+use Rattle.std.specs.Prelude.{◌⊎◌, ◌↔◌, Bool, leb, take}
 use Rattle.std.proofs.Math.Logic.{inl, inr}
 use mathlib.Core.List.{List, [], ◌∷◌, ◌++◌, append_assoc, append-nil}
 use Rattle.std.proofs.Math.Bool.{true, false}

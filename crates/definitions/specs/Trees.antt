@@ -1,5 +1,5 @@
 -- SCOPE.md, 'Term bytes': a term as a tree, its items, and the tree that bytes spell.
-use Rattle.std.specs.Prelude.{ℕ, zero, suc, ◌+◌, ◌*◌, ◌≤◌, ◌<◌, ◌≡◌, ◌⊎◌, List, [], ◌∷◌, ◌++◌, length, get_or}
+use Rattle.std.specs.Prelude.{ℕ, zero, suc, ◌*◌, ◌≤◌, ◌<◌, ◌≡◌, ◌⊎◌, List, [], ◌∷◌, ◌++◌, length}
 use Rattle.keys.specs.Keys.{Tm, Args, node, nil, cons, Key, root, keys_t}
 use Rattle.terms.specs.Terms.{numbers}
 use Rattle.laws.specs.Sizes.{variable_base, variable_end}

@@ -1,4 +1,6 @@
 // The one decoding: the items of a term from its bytes, a variable's number as it is written (SCOPE.md, 'Term bytes').
+#![tactic(auto)]
+
 ghost use Rattle.std.specs.Prelude.{◌≡◌, ◌+◌, ◌/◌, ◌≤◌, length};
 ghost use Rattle.std.proofs.lemmas.List.Edits.{sets};
 ghost use Rattle.variables.specs.Banks.{bank_of};

@@ -1,6 +1,6 @@
 -- Serves SCOPE.md, 'The solver's record': sets of variables in one word, for the occurs check.
-use Rattle.std.specs.Prelude.{ℕ, ◌+◌, ◌*◌, ◌/◌, ◌^◌, ◌<◌, ◌≡◌, refl, ◌⊎◌, ◌≢◌, ◌↔◌, Bool, true, false, List, [], ◌∷◌, map, eqb, length, get_or}
-use Rattle.std.proofs.Common.{ap, ◌∙◌, inl, inr, arith, eqb-true}
+use Rattle.std.specs.Prelude.{ℕ, ◌/◌, ◌^◌, ◌<◌, ◌≡◌, refl, ◌⊎◌, ◌≢◌, ◌↔◌, Bool, true, false, List, [], ◌∷◌, map, eqb, length, get_or}
+use Rattle.std.proofs.Common.{inl, inr, arith, eqb-true}
 use Rattle.std.proofs.Math.Nat.{div-eq_of_lt}
 use Rattle.std.proofs.Math.Decide.{ℕ_discrete}
 use Rattle.std.specs.Int.Bits.{bit_or}
@@ -103,6 +103,7 @@ in_one : (x z : ℕ) (v w : List Item) → x ≢ z → Occurs z (app (one x v) w
 in_one x z v w n = ((λ h. let r = in_app (one x v) z w h in to r.0 r.1 r.2 (ℕ_discrete x r.0)), from)
   where
     is : (y : ℕ) → Occurs z (vars y) → z ≡ y
+    is y (inr x'') = elim x'' [ ]
     is y (inl e) = e
 
     to : (y : ℕ) → Occurs y w → Occurs z (one x v y) → Dec (x ≡ y) → Occurs z w ⊎ (Occurs x w × Occurs z v)
@@ -121,6 +122,7 @@ pub sets_start : (ms : List ℕ) → ((y : ℕ) → y < 64 → get_or ms y 0 ≡
 sets_start ms h y z b n = ((λ o. inl ((on_one z y).0 (rw (h y b) at o))), λ i. rw (h y b) ((on_one z y).1 (is i)))
   where
     is : Occurs z (vars y) → z ≡ y
+    is (inr x') = elim x' [ ]
     is (inl e) = e
 
 abbrev pub WrittenOnly : List Item → Type 0

@@ -202,6 +202,7 @@ module _ (sig pool : List ℕ) (G : Given sig pool) where
         i = (sets_term B ms h.sets (term sig pool u) (node_named u) x unbound_x).0 o
 
         is : (y : ℕ) → Occurs x (vars y) → x ≡ y
+        is y (inr x'') = elim x'' [ ]
         is y (inl q) = q
 
         long : (f : ℕ) (l : List Item) → Occurs x (app (full B) (sy f ∷ l)) → 1 < length (app (full B) (sy f ∷ l))

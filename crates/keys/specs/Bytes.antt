@@ -1,5 +1,5 @@
 -- SCOPE.md, 'Paths and keys' and refusal 9: which bytes are a key.
-use Rattle.std.specs.Prelude.{ℕ, ◌+◌, ◌*◌, ◌<◌, ◌≤◌, List, [], ◌∷◌, Bool, true, false, ltb, leb, eqb, length, get_or}
+use Rattle.std.specs.Prelude.{ℕ, ◌+◌, ◌*◌, List, [], ◌∷◌, Bool, true, false, ltb, leb, eqb, length}
 use Rattle.laws.specs.Choice.{pick}
 use Rattle.terms.specs.Terms.{arity}
 

@@ -1,6 +1,6 @@
 -- SCOPE.md, 'Paths and keys': terms as trees, places in them, and their keys.
-use Rattle.std.specs.Prelude.{ℕ, zero, suc, ◌+◌, ◌-◌, ◌*◌, ◌/◌, ◌%◌, ◌≤◌, ◌<◌, ◌≡◌, refl, ◌⊎◌, ◌↔◌, List, [], ◌∷◌, ◌++◌, Bool, true, false, leb, eqb, length}
-use Rattle.std.proofs.Common.{sym, ap, ◌∙◌, inl, inr, ⊎_elim, append_assoc, add-zero, add-suc, suc-add, arith, eq-eqb, ne_eqb, eqb-true, length-append}
+use Rattle.std.specs.Prelude.{ℕ, zero, suc, ◌+◌, ◌≤◌, ◌≡◌, refl, ◌⊎◌, List, [], ◌∷◌, ◌++◌, Bool, true, false, leb, eqb, length}
+use Rattle.std.proofs.Common.{sym, ap, ◌∙◌, inl, inr, ⊎_elim, add-zero, arith, eq-eqb, eqb-true, length-append}
 use Rattle.std.proofs.Math.Option.{Option, some, none}
 use Rattle.laws.specs.Members.{In, NoDup, in_append, in_left, in_right, nodup_append}
 use Rattle.laws.specs.Choice.{pick}

@@ -1,12 +1,10 @@
 -- Serves SCOPE.md, 'Paths and keys': the sets of slots of 4,096 keys, eight words each, in four tables.
-use Rattle.std.specs.Prelude.{ℕ, zero, suc, ◌+◌, ◌-◌, ◌*◌, ◌/◌, ◌%◌, ◌^◌, ◌≤◌, ◌<◌, min, max, ◌≡◌, refl, ◌⊎◌, ◌↔◌, List, [], ◌∷◌, ◌++◌, Bool, true, false, eqb, ltb, length, get_or, set, replicate}
-use Rattle.std.proofs.Common.{sym, ap, ◌∙◌, subst, inl, inr, ⊎_elim, arith, mod-lt, mod-eq_of_lt, one-mul, pow-suc, div-one, one-add, eq-eqb, ne_eqb, eqb-true, pow-add, pow_pos, shr-shr, length-set, get_or-set_same, get_or-set_other}
-use Rattle.std.proofs.Math.Decide.{ℕ_discrete, dec_lt}
-use Rattle.std.proofs.Math.Nat.{div-eq_of_lt, mul-mod_left}
+use Rattle.std.specs.Prelude.{ℕ, zero, suc, ◌+◌, ◌*◌, ◌/◌, ◌%◌, ◌^◌, ◌≤◌, ◌<◌, ◌≡◌, refl, ◌⊎◌, ◌↔◌, List, Bool, true, false, eqb, ltb, length, get_or, set, replicate}
+use Rattle.std.proofs.Common.{sym, ◌∙◌, inl, inr, arith, eqb-true, length-set, get_or-set_same, get_or-set_other}
+use Rattle.std.proofs.Math.Decide.{ℕ_discrete}
 use Rattle.std.proofs.lemmas.Bool.{eqb-false}
-use Rattle.std.proofs.Math.Arith.{digits_mod}
-use Rattle.std.specs.Int.Bits.{bit_and, bit_or, bit_xor, and_step, or_step, xor_step, and_lt}
-use Rattle.std.proofs.lemmas.Nat.{and_shr, or_shr, xor_shr, or_lt, xor_lt, shl-shr}
+use Rattle.std.specs.Int.Bits.{bit_and, bit_or, bit_xor, and_lt}
+use Rattle.std.proofs.lemmas.Nat.{or_lt, xor_lt}
 use Rattle.std.proofs.Math.Pow.{pow-lt}
 use Rattle.laws.specs.Choice.{pick}
 use Rattle.slots.specs.Slots.{words8}

@@ -1,13 +1,13 @@
 -- What callers use of the layout.
-use Prim.Native.Nat.{ℕ, zero, suc, ◌+◌, ◌-◌, ◌*◌, ◌/◌, ◌%◌, ◌≤◌, ◌<◌, min, max}
-use mathlib.Core.Path.{◌≡◌, refl, sym, ap, ◌∙◌}
-use mathlib.Core.List.{List, [], ◌∷◌, ◌++◌}
+use Prim.Native.Nat.{ℕ, zero, suc, ◌+◌, ◌-◌, ◌*◌, ◌/◌, ◌%◌, ◌≤◌, ◌<◌, max}
+use mathlib.Core.Path.{◌≡◌, refl, ap, ◌∙◌}
+use mathlib.Core.List.{List, [], ◌∷◌}
 use mathlib.Core.Bool.{Bool, true, false}
 use native.Mathlib.Numerals.{add-one}
 use native.Mathlib.Omega.{arith}
 use borrow.Author.Tests.{ltb-true, ltb-false, leb-true, lt-ltb, le-ltb}
-use lib.Dec.{ltb, leb, eqb}
-use lib.ListN.{length, get_or, set, take, drop, replicate, length-take, length-drop, length-set, length-append, length-replicate, drop_of_length-le}
+use lib.Dec.{ltb, eqb}
+use lib.ListN.{length, get_or, set, take, drop, length-take, length-drop, length-set, length-append, length-replicate, drop_of_length-le}
 use lib.Seq.{drop-cons, sets, length-sets, take_all}
 use Rattle.laws.specs.Choice.{pick}
 use Rattle.laws.proofs.Lists.{sets_turn}

@@ -1,6 +1,6 @@
 -- SCOPE.md, 'Store' ('the tables' sizes are written in docs/'), docs/TABLES.md: how long the lent tables are, and
 -- where the signature, the slots in use and the terms stand in them.
-use Rattle.std.specs.Prelude.{ℕ, ◌+◌, ◌*◌, ◌/◌, ◌%◌, ◌≤◌, ◌<◌, max, ◌≡◌, List, [], ◌∷◌, ◌++◌, Bool, true, false, ltb, leb, eqb, length, get_or, set, take, drop, replicate}
+use Rattle.std.specs.Prelude.{ℕ, ◌+◌, ◌*◌, ◌/◌, ◌%◌, ◌≤◌, max, List, [], ◌∷◌, ◌++◌, Bool, false, ltb, leb, eqb, length, get_or, set, take, drop, replicate}
 use Rattle.std.proofs.lemmas.List.Edits.{sets}
 use Rattle.laws.specs.Choice.{pick}
 use Rattle.slots.specs.Slots.{has, words8}

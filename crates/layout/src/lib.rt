@@ -1,4 +1,6 @@
 // How long the lent tables are, and where the signature, the slots in use and the terms stand in them (docs/TABLES.md).
+#![tactic(auto)]
+
 ghost use Rattle.std.specs.Prelude.{◌≡◌, ◌+◌, ◌-◌, ◌*◌, ◌%◌, ◌≤◌, ◌<◌, max, length, get_or};
 ghost use Rattle.layout.specs.Layout.{sets_long, long_enough, largest_of, signature_of, term_of, used_of, is_used};
 ghost use Rattle.laws.specs.Sizes.{bytes_length, slot_count};

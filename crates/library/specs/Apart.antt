@@ -2,7 +2,7 @@
 -- stored variable v has the number v and the question variable v the number 32 + v (`Stands` of
 -- variables/specs/Sides.antt says this of the code's three kinds of variable); `shift 32` takes that step for a
 -- question's items.
-use Rattle.std.specs.Prelude.{ℕ, ◌+◌, ◌-◌, ◌≤◌, ◌<◌, ◌≡◌, refl, ◌⊎◌, ◌↔◌, List, [], ◌∷◌}
+use Rattle.std.specs.Prelude.{ℕ, ◌+◌, ◌-◌, ◌≤◌, ◌<◌, ◌≡◌, ◌↔◌, List, [], ◌∷◌}
 use Rattle.std.proofs.Common.{arith, sym, subst, inl, inr}
 use Rattle.terms.specs.Terms.{sig_refusal, refusal}
 use Rattle.theory.specs.Flat.{Item, sy, va}

@@ -7,7 +7,6 @@ use Rattle.std.specs.Prelude.{ℕ, ◌*◌, ◌≤◌, ◌<◌, ◌≡◌, ◌�
 use Rattle.std.proofs.Math.Option.{some}
 use Rattle.laws.specs.Members.{In, NoDup}
 use Rattle.refusals.specs.declared.Refusal.{Refusal}
-use Rattle.refusals.specs.declared.Refusal.TheVariants as Refusal
 use Rattle.refusals.specs.Refusals.{number_of}
 use Rattle.keys.specs.Keys.{Key, HasKey}
 use Rattle.theory.specs.Flat.{Item}

@@ -10,7 +10,6 @@ use Rattle.std.proofs.Math.Option.{Option, some, none}
 use borrow.Author.Tests.{ltb-true, ltb-false, eq-eqb, ne_eqb, eqb-true, eqb-false}
 use Rattle.laws.specs.Choice.{pick}
 use Rattle.refusals.specs.declared.Refusal.{Refusal}
-use Rattle.refusals.specs.declared.Refusal.TheVariants as Refusal
 use Rattle.refusals.specs.Refusals.{number_of, rank}
 use Rattle.refusals.specs.Numbers.{number_some}
 use Rattle.terms.specs.Terms.{sig_refusal, refusal}

@@ -2,7 +2,7 @@
 -- of a term. That these bytes spell argument i of the term's tree is `argument_tree` of Spelt.
 use Prim.Native.Nat.{ℕ, zero, suc, ◌+◌, ◌-◌, ◌≤◌, ◌<◌}
 use Rattle.std.proofs.Common.{arith, sym, ◌∙◌, take-append-drop}
-use Rattle.std.specs.Prelude.{◌≡◌, refl, List, [], ◌∷◌, ◌++◌, get_or}
+use Rattle.std.specs.Prelude.{◌≡◌, refl, List, [], ◌∷◌, ◌++◌}
 use Rattle.std.proofs.Math.Path.{ap, subst}
 use Rattle.std.proofs.Math.ListN.{length, take, drop, length-take, length-drop}
 use Rattle.std.proofs.Math.Seq.{drop-drop, take-append_seam, drop-append_seam}

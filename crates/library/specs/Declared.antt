@@ -2,12 +2,11 @@
 -- values that are terms by the arities, where a symbol that is not declared has arity 0. Here: such symbols change
 -- nothing. Terms that stand in a relation do so by a substitution with declared symbols alone, and the recorded
 -- unifier has no others.
-use Rattle.std.specs.Prelude.{ℕ, zero, suc, ◌+◌, ◌*◌, ◌≤◌, ◌<◌, ◌≡◌, ◌↔◌, Bool, leb, get_or}
+use Rattle.std.specs.Prelude.{ℕ, zero, suc, ◌+◌, ◌*◌, ◌≤◌, ◌<◌, ◌≡◌, ◌↔◌, Bool, leb}
 use Rattle.std.proofs.Math.Decide.{dec_lt}
 use native.Mathlib.Omega.{arith}
 use Rattle.std.proofs.Math.Path.{refl}
 use Rattle.std.proofs.Common.{sym, ◌∙◌, inl, inr}
-use Rattle.std.proofs.Math.Logic.{Iff·rfl}
 use Rattle.std.proofs.Math.Bool.{true, false}
 use Rattle.std.proofs.Math.Option.{Option, some, none}
 use mathlib.Core.List.{List, [], ◌∷◌, ◌++◌, map}
@@ -194,7 +193,7 @@ module _ (sig : List ℕ) where
 
     -- each relation is the same with substitutions to terms of the signature
     pub stands_declared : (r : ℕ) → Stands sig r t q ↔ StandsProper r t q
-    stands_declared zero = Iff·rfl
+    stands_declared zero = ((λ e. e), (λ e. e))
     stands_declared (suc zero) = ((λ v. (v.to, renaming_proper v.to, v.turns)), (λ w. record { to = w.0; turns = w.2 }))
     stands_declared (suc (suc zero)) = (instance_declared q t a, (λ w. record { by = w.0; sub = w.1.sub; turns = w.2 }))
     stands_declared (suc (suc (suc zero))) = (instance_declared t q b, (λ w. record { by = w.0; sub = w.1.sub; turns = w.2 }))

@@ -1,6 +1,6 @@
 -- The formulas of document 001 and the table of SCOPE.md, 'Paths and keys', give the same candidates. One formula
 -- with two switches serves the proof.
-use Rattle.std.specs.Prelude.{ℕ, suc, ◌+◌, ◌<◌, ◌≡◌, ◌⊎◌, ◌↔◌, List, Bool, leb, get_or}
+use Rattle.std.specs.Prelude.{ℕ, suc, ◌+◌, ◌<◌, ◌≡◌, ◌⊎◌, ◌↔◌, List, Bool, leb}
 use Rattle.std.proofs.Math.Path.{refl, sym}
 use Rattle.std.proofs.Common.{ap, ◌∙◌, inl, inr, add-zero, zero-add, arith}
 use Rattle.std.proofs.Math.Bool.{true, false}

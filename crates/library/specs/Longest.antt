@@ -71,8 +71,11 @@ slots_most p (suc k) s = go (p s) (slots_most p k (suc s))
     go true ih = omega arith
     go false ih = omega arith
 
+pub slots_room : (p : ℕ → Bool) → 2 * length (slots_with p) ≤ 2 * slot_count
+slots_room p = omega (arith, slots_most p slot_count 0)
+
 pub listing_most_lem : (p : ℕ → Bool) → 2 * length (slots_with p) ≤ listing_most
-listing_most_lem p = omega (arith, slots_most p slot_count 0)
+listing_most_lem p = slots_room p
 
 -- WITH THAT MUCH ROOM 15 is not given
 term_other : (sig t : List ℕ) → refusal sig t ≡ 15 → ⊥
@@ -133,7 +136,7 @@ unfolding answered answers
 retrieve_roomy st r q room h = go (ltb 4 r) (eqb (refusal st.signature q) 0)
   where
     most : 2 * length (answers st r q) ≤ room
-    most = omega (arith, listing_most_lem (λ s. holding (λ t. stands st.signature r t q) (st.held s)), h)
+    most = omega (arith, slots_room (λ s. holding (λ t. stands st.signature r t q) (st.held s)), h)
 
     go : (a b : Bool) → pick a (refused 3) (pick b (fits (answers st r q) room (found (length (candidates st r q)) (answers st r q))) (refused (refusal st.signature q))) ≡ refused 15 → ⊥
     go true b z = let e = number_same 3 15 z in omega arith
@@ -146,7 +149,7 @@ unfolding answered keyed
 key_roomy st k room h = go (is_key st.signature k)
   where
     most : 2 * length (keyed st k) ≤ room
-    most = omega (arith, listing_most_lem (λ s. holding (λ t. has_key (tree_of st.signature t) (key_of k)) (st.held s)), h)
+    most = omega (arith, slots_room (λ s. holding (λ t. has_key (tree_of st.signature t) (key_of k)) (st.held s)), h)
 
     go : (a : Bool) → pick a (fits (keyed st k) room (slots (keyed st k))) (refused 9) ≡ refused 15 → ⊥
     go true z = fits_roomy (keyed st k) room _ _ _ most z

@@ -3,8 +3,8 @@
 -- statements are for stores that calls lead to (Sound).
 use Prim.Native.Nat.{ℕ, zero, suc, ◌+◌, ◌≤◌, ◌<◌}
 use Rattle.std.proofs.Math.Decide.{ℕ_discrete, dec_lt}
-use Rattle.std.proofs.Common.{arith, sym, ap, ◌∙◌}
-use Rattle.std.specs.Prelude.{◌≡◌, ◌⊎◌, ◌↔◌, Bool, eqb}
+use Rattle.std.proofs.Common.{arith, sym, ◌∙◌}
+use Rattle.std.specs.Prelude.{◌≡◌, ◌⊎◌, ◌↔◌, Bool}
 use Rattle.std.proofs.Math.Path.{refl}
 use Rattle.std.proofs.Math.Logic.{inl, inr, ⊎_elim}
 use Rattle.std.proofs.Math.Bool.{true, false}
@@ -12,10 +12,10 @@ use Rattle.std.proofs.Math.Option.{Option, some, none}
 use mathlib.Core.List.{List, [], ◌∷◌, ◌++◌}
 use Rattle.std.proofs.Math.Dec.{ltb}
 use Rattle.std.proofs.Math.ListN.{length}
-use borrow.Author.Tests.{lt-ltb, le-ltb, ltb-true, ltb-false, eq-eqb}
+use borrow.Author.Tests.{lt-ltb, le-ltb, ltb-false, eq-eqb}
 use Rattle.laws.specs.Choice.{pick}
 use Rattle.laws.specs.Members.{In, NoDup, in_append, in_left, in_right, nodup_le}
-use Rattle.terms.specs.Terms.{sig_refusal, refusal}
+use Rattle.terms.specs.Terms.{refusal}
 use Rattle.terms.proofs.TermLaws.{signed}
 use Rattle.keys.specs.Keys.{Key, HasKey}
 use Rattle.theory.specs.Flat.{Item}
@@ -36,9 +36,9 @@ use Rattle.definitions.specs.ReadBack.{read_fields, Reads, read_back, read_count
 use Rattle.definitions.specs.Spelt.{clash, taken, keys_stand}
 use Rattle.library.specs.Store.{Store, slots_from, slots_with, holding, in_use, free_from, first_free, key?, keys_in}
 use Rattle.library.specs.Store.{keys_from, keys_held, is_in, distinct, key_count, solve, keyed, candidates, answers}
-use Rattle.library.specs.Store.{solving_held, answered}
+use Rattle.library.specs.Store.{answered}
 use Rattle.library.specs.Sound.{Sound, free_most}
-use Rattle.definitions.specs.Answers.{Answer, refused, solved, long_from, recorded}
+use Rattle.definitions.specs.Answers.{refused, solved, long_from, recorded}
 use Rattle.laws.specs.Sizes.{slot_count, value_limit}
 use Rattle.terms.specs.Terms.{arity}
 

@@ -30,7 +30,7 @@ use Rattle.definitions.specs.ReadBack.{read_fields, read_count, Octets, term_bel
 use Rattle.definitions.specs.Answers.{found, solved}
 use Rattle.library.specs.Store.{Store, holding, retrieve, solve, candidates, answers, answered}
 use Rattle.library.specs.Sound.{Sound}
-use Rattle.library.specs.Longest.{listing_most, listing_most_lem}
+use Rattle.library.specs.Longest.{listing_most, slots_room}
 use Rattle.library.specs.Readable.{answers_are, solve_writes}
 
 -- the question, 0x8000 + v
@@ -141,14 +141,17 @@ module _ (sig t : List ℕ) (ft : Fine sig t) (v : ℕ) where
   value_listed : v < 32 → listed_bindings value ≡ ((32 + v) := items t) ∷ []
   value_listed l = one_listed value (32 + v) value_changes value_other 64 0 (omega arith) (omega arith) ∙ ap (λ u. ((32 + v) := u) ∷ []) (one_same (32 + v) (items t))
 
-  value_bytes_lem : v < 32 → Octets t → record_of value ≡ term_record v t
+  value_bytes_are : v < 32 → Octets t → record_of value ≡ 16 ∷ 0 ∷ (2 + length t) ∷ 128 ∷ (32 + v) ∷ t
   unfolding record_of written_fields field_bytes bytes
-  value_bytes_lem l o =
+  value_bytes_are l o =
       let a : suc (suc (length t)) / 256 ≡ 0 = omega (arith, ft.short) in
       let b : suc (suc (length t)) % 256 ≡ 2 + length t = omega (arith, ft.short) in
       let c : (variable_base + (32 + v)) / 256 ≡ 128 = omega arith in
       let d : (variable_base + (32 + v)) % 256 ≡ 32 + v = omega arith in
       rw (value_listed l, bytes_items t o ft.even, c, d, append-nil t, a, b)
+
+  value_bytes_lem : v < 32 → Octets t → record_of value ≡ term_record v t
+  value_bytes_lem l o = value_bytes_are l o
 
   value_count : v < 32 → count_of value ≡ 1
   unfolding count_of
@@ -175,11 +178,11 @@ module _ (st : Store) (h : Sound st) (v : ℕ) (b : v < 32) where
       fq = fine sig (variable_question v) h.signed variable_checked
 
       is : IsRecord sig t (variable_question v) (term_record v t)
-      is = record { by = value sig t ft v; unifier = unifier sig t ft v; is = sym (value_bytes_lem sig t ft v b o) }
+      is = record { by = value sig t ft v; unifier = unifier sig t ft v; is = sym (value_bytes_are sig t ft v b o) }
 
       count : length (read_fields (term_record v t)) ≡ 1
       count =
-          ap (λ w. length (read_fields w)) (sym (value_bytes_lem sig t ft v b o))
+          ap (λ w. length (read_fields w)) (sym (value_bytes_are sig t ft v b o))
           ∙ sym (read_count sig t (variable_question v) ft fq (value sig t ft v) (unifier sig t ft v))
           ∙ value_count sig t ft v b
 
@@ -202,5 +205,5 @@ module _ (st : Store) (h : Sound st) (v : ℕ) (b : v < 32) where
       ≡ found (length (candidates st 2 (variable_question v))) (answers st 2 (variable_question v))
   unfolding answered answers
   instances_answered room l =
-      let m : 2 * length (answers st 2 (variable_question v)) ≤ room = omega (arith, listing_most_lem (λ s. holding (λ t. stands st.signature 2 t (variable_question v)) (st.held s)), l) in
+      let m : 2 * length (answers st 2 (variable_question v)) ≤ room = omega (arith, slots_room (λ s. holding (λ t. stands st.signature 2 t (variable_question v)) (st.held s)), l) in
       rw (eq-eqb (refusal st.signature (variable_question v)) 0 variable_checked, le-ltb room (2 * length (answers st 2 (variable_question v))) m)

@@ -1,10 +1,9 @@
 -- The slots of a set in order: how many there are, and how a listing goes from one to the next.
 use Prim.Native.Nat.{ℕ, zero, suc, ◌+◌, ◌-◌, ◌*◌, ◌/◌, ◌%◌, ◌^◌, ◌≤◌, ◌<◌}
 use mathlib.Core.Path.{◌≡◌, refl, sym, ap, ◌∙◌}
-use mathlib.Core.List.{List, [], ◌∷◌, ◌++◌}
-use mathlib.Core.Bool.{Bool, true, false}
+use mathlib.Core.List.{List, [], ◌∷◌}
 use native.Mathlib.Nat.{pow-suc, div-one}
-use native.Mathlib.Numerals.{add-one, one-add}
+use native.Mathlib.Numerals.{add-one}
 use native.Mathlib.Omega.{arith}
 use native.Mathlib.Decide.{ℕ_discrete}
 use borrow.Author.Tests.{eq-eqb, ne_eqb}
@@ -12,9 +11,8 @@ use lib.Count.{ones, ones_step}
 use lib.Dec.{eqb}
 use lib.ListN.{length, get_or, set, take, drop, length-drop, length-set}
 use lib.Pow.{shr-shr}
-use lib.Seq.{sets, drop-cons, drop-drop, get_or-drop}
+use lib.Seq.{sets, drop-drop, get_or-drop}
 use Rattle.laws.specs.Choice.{pick}
-use Rattle.laws.specs.Digits.{bit}
 use Rattle.laws.proofs.Lists.{front_turn, front_start, front_end}
 use Rattle.slots.specs.Slots.{has, members_from, members, listed, Next, next_above}
 use Rattle.laws.specs.Sizes.{slot_count}

@@ -1,5 +1,7 @@
 // The slots of a set in their order: the next one, how many there are, and their listing (SCOPE.md, 'Paths and keys'
 // and 'Numbers of refusal').
+#![tactic(auto)]
+
 ghost use Rattle.std.specs.Prelude.{◌≡◌, ◌*◌, ◌/◌, ◌^◌, ◌≤◌, ◌<◌, length};
 ghost use Rattle.std.specs.Int.Count.{ones, count_trailing_zeros};
 ghost use Rattle.std.proofs.lemmas.List.Edits.{sets};

@@ -1,5 +1,7 @@
 // Equal, instance and variant (SCOPE.md, 'The relations themselves'). The target's variables stand still: a pattern
 // variable's number is an index of the binding table and is never compared with a number of the target.
+#![tactic(auto)]
+
 ghost use Rattle.std.specs.Prelude.{◌≡◌, ℕ, suc, ◌+◌, ◌-◌, ◌/◌, ◌≤◌, ◌<◌, length, get_or, take, drop};
 ghost use Rattle.theory.specs.Items.{items, Fine};
 ghost use Rattle.theory.specs.Relations.{Decided, Instance, Variant};

@@ -21,7 +21,7 @@
 -- back, and how much room every answer has enough of, is in ReadStore.antt beside this file.
 use Rattle.std.specs.Prelude.{ℕ, ◌≤◌, ◌<◌, ◌≡◌, refl, ◌≢◌, ◌↔◌, true, false, List, ◌++◌, length, take, drop}
 use Rattle.std.proofs.Common.{sym, ap, ◌∙◌, arith, eq-eqb, ne_eqb}
-use Rattle.std.proofs.Math.Logic.{Iff·trans}
+use mathlib.Core.Logic.Iff
 use Rattle.std.proofs.Math.Option.{some, none}
 use Rattle.std.proofs.lemmas.List.Edits.{sets}
 use Rattle.laws.specs.Members.{In, NoDup}
@@ -174,7 +174,7 @@ pub demand_1_exactly : (T : Tables) (st : Store) (c : Call) (out₀ : List ℕ) 
     → (o.refused ≡ number_of why) ↔
     (Applies st c why × ((w : Refusal) → Applies st c w → rank (number_of why) ≤ rank (number_of w)))
 demand_1_exactly T st c out₀ o why k d =
-    Iff·trans (demand_1_number T st c out₀ o (number_of why) k d (number_some why))
+    Iff.trans (demand_1_number T st c out₀ o (number_of why) k d (number_some why))
     (refused_exactly st (run_sound T st k) c why)
 
 -- INSERT AND DELETE, where not refused. st is the store before and next the one afterwards, with which the run goes on
@@ -361,7 +361,7 @@ most_general sig t q w h =
 module _ (T : Tables) (st : Store) (s room : ℕ) (t q out₀ : List ℕ) (o : Outcome) (k : Run T st)
     (e : st.held s ≡ some t) (c : refusal st.signature q ≡ 0) (d : Called T out₀ (solve s q room) o) where
   pub demand_3_none : (o.refused ≡ 13) ↔ (Unifiable st.signature t q → ⊥)
-  demand_3_none = Iff·trans (demand_1_number T st (solve s q room) out₀ o 13 k d (λ z. omega arith))
+  demand_3_none = Iff.trans (demand_1_number T st (solve s q room) out₀ o 13 k d (λ z. omega arith))
       (solve_none st (run_sound T st k) s t e q c room)
 
   pub demand_3 : o.refused ≡ 0 → Solution st.signature t q out₀ o
@@ -402,7 +402,7 @@ module _ (T : Tables) (st : Store) (s room : ℕ) (t q out₀ : List ℕ) (o : O
   -- items
   pub demand_3_long : (o.refused ≡ 14) ↔
       ((θ : ℕ → List Item) × Unifier st.signature (items t) (shift 32 (items q)) θ × (Short θ → ⊥))
-  demand_3_long = Iff·trans (demand_1_number T st (solve s q room) out₀ o 14 k d (λ z. omega arith))
+  demand_3_long = Iff.trans (demand_1_number T st (solve s q room) out₀ o 14 k d (λ z. omega arith))
       (solve_long st (run_sound T st k) s t e q c room)
 
   -- a record that is short and fits is written

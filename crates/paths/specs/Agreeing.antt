@@ -1,6 +1,6 @@
 -- The table of candidates of SCOPE.md, 'Paths and keys', is what the walk through the tables finds: the definitions'
 -- `agree` against the walk's `Agree`.
-use Rattle.std.specs.Prelude.{ℕ, ◌≤◌, ◌<◌, ◌≡◌, refl, ◌⊎◌, ◌↔◌, List, Bool, true, false, T, leb, eqb, get_or}
+use Rattle.std.specs.Prelude.{ℕ, ◌≤◌, ◌<◌, ◌≡◌, refl, ◌⊎◌, ◌↔◌, List, Bool, true, false, T, leb, eqb}
 use Rattle.std.proofs.Common.{sym, ap, ◌∙◌, inl, inr, ⊎_elim, arith, le-leb, eqb-true, eq-eqb}
 use Rattle.std.proofs.lemmas.Bool.{lt-leb}
 use Rattle.laws.specs.Choice.{pick}

@@ -1,5 +1,5 @@
 -- Serves SCOPE.md, 'Paths and keys': the candidate walk through the tables, and what it means.
-use Rattle.std.specs.Prelude.{ℕ, suc, ◌+◌, ◌-◌, ◌*◌, ◌≤◌, ◌<◌, ◌≡◌, ◌⊎◌, ◌↔◌, List, Bool, true, false, T, leb}
+use Rattle.std.specs.Prelude.{ℕ, suc, ◌+◌, ◌*◌, ◌≤◌, ◌<◌, ◌≡◌, ◌⊎◌, ◌↔◌, List, Bool, true, false, T, leb}
 use Rattle.std.proofs.Common.{sym, ap, ◌∙◌, subst, inl, inr, ⊎_elim, arith, add-zero}
 use Rattle.std.proofs.Math.Option.{Option, some}
 use Rattle.laws.specs.Choice.{pick}

@@ -1,16 +1,15 @@
 -- SCOPE.md, 'Numbers of refusal': how many distinct keys the stored terms have, and refusal 12.
-use Prim.Native.Nat.{ℕ, zero, suc, ◌+◌, ◌-◌, ◌*◌, ◌/◌, ◌%◌, ◌≤◌, ◌<◌}
-use Rattle.std.specs.Prelude.{◌≡◌, ◌⊎◌, ◌↔◌, List, [], ◌∷◌, ◌++◌, Bool, true, false, eqb, length}
+use Prim.Native.Nat.{ℕ, zero, suc, ◌+◌, ◌-◌, ◌≤◌, ◌<◌}
+use Rattle.std.specs.Prelude.{◌≡◌, ◌⊎◌, ◌↔◌, List, [], ◌∷◌, ◌++◌, length}
 use Rattle.std.proofs.Math.Path.{refl}
-use Rattle.std.proofs.Common.{sym, ap, ◌∙◌, subst, eq-eqb, ne_eqb, length-append}
+use Rattle.std.proofs.Common.{ap, ◌∙◌, eq-eqb, ne_eqb, length-append}
 use Rattle.std.proofs.Math.Logic.{inl, inr, ⊎_elim}
 use native.Mathlib.Omega.{arith}
 use Rattle.std.proofs.Math.Decide.{ℕ_discrete}
 use Rattle.std.proofs.Math.ListN.{get_or}
 use Rattle.laws.specs.Members.{In, NoDup, nodup_le, nodup_append, in_append, in_left, in_right}
-use Rattle.laws.specs.Choice.{pick}
 use Rattle.keys.specs.Keys.{Place, Key, key}
-use Rattle.paths.specs.Rep.{lab, Den, Rep, Full, den_fun, den_inj}
+use Rattle.paths.specs.Rep.{Rep, Full, den_fun, den_inj}
 use Rattle.paths.specs.Free.{free_of, frees}
 use Rattle.paths.specs.Insert.{DenK, ResultKind, Lack, done, has, new, With}
 use Rattle.laws.specs.Sizes.{key_limit}

@@ -1,16 +1,15 @@
 -- Serves SCOPE.md, 'Store': in a delete each key of a term, the last first, loses the slot, and is freed where it has
 -- none left.
-use Rattle.std.specs.Prelude.{ℕ, zero, suc, ◌+◌, ◌-◌, ◌*◌, ◌/◌, ◌%◌, ◌≤◌, ◌<◌, ◌≡◌, ◌⊎◌, ◌↔◌, Bool, true, false, length, get_or, set}
+use Rattle.std.specs.Prelude.{ℕ, suc, ◌<◌, ◌≡◌, ◌↔◌, Bool, true, false, get_or, set}
 use Rattle.std.proofs.Math.Path.{refl}
-use Rattle.std.proofs.Common.{sym, ap, ◌∙◌, subst, inl, inr, ⊎_elim, arith, length-set, get_or-set_same, get_or-set_other}
-use mathlib.Core.List.{List, [], ◌∷◌, ◌++◌}
-use Rattle.std.proofs.Math.Decide.{ℕ_discrete, dec_lt}
+use Rattle.std.proofs.Common.{ap, ◌∙◌, subst, inl, inr, ⊎_elim, arith, length-set, get_or-set_same, get_or-set_other}
+use mathlib.Core.List.{List, [], ◌∷◌}
+use Rattle.std.proofs.Math.Decide.{ℕ_discrete}
 use Rattle.laws.specs.Members.{In, NoDup}
-use Rattle.laws.specs.Choice.{pick}
-use Rattle.chains.specs.Chains.{Chains, relinked}
+use Rattle.chains.specs.Chains.{relinked}
 use Rattle.keys.specs.Keys.{Place, root, step, Key, key}
-use Rattle.paths.specs.Rep.{lab, At, Den, Rep, Full, Minus, den_fun, clear_rep, free_rep, den_stay}
-use Rattle.paths.specs.Insert.{DenK, ResultKind, Dens, rep_iff, St, GoodTables, relinked_length}
+use Rattle.paths.specs.Rep.{Den, Rep, Full, Minus, den_fun, clear_rep, free_rep, den_stay}
+use Rattle.paths.specs.Insert.{DenK, Dens, rep_iff, St, GoodTables, relinked_length}
 use Rattle.laws.specs.Sizes.{key_limit, slot_count}
 
 -- the place of each key is the root or leads from a key after it
@@ -127,7 +126,7 @@ module _ (S : Type 0) (mem : S → ℕ → ℕ → Type 0) (mark unmark : S → 
       where
         child : (Q : Place) (j f : ℕ) → Q ≡ step P e j → In (key Q f) (key P e ∷ Ks) → ⊥
         child Q j f q (inl z) = let y : P ≡ step P e j = (let y' : P ≡ Q = cc in y' ∙ q) in no_loop P e j y
-        child Q j f q (inr h) = n.0 (grown_parent Ks P e j f w.1 (rw q at h))
+        child Q j f q (inr h) = n.0 (grown_parent Ks P e j f w.1 (subst (λ (x : Place). In (key x f) Ks) q h))
 
         rest : (Q : Place) (f : ℕ) → Minus R s P e s Q f → In (key Q f) Ks
         rest Q f m = ⊎_elim (λ (z : key Q f ≡ key P e). absurd (m.1 (refl, (cc), (cc)))) (λ z. z) (i Q f m.0)

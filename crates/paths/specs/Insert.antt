@@ -1,20 +1,20 @@
 -- Serves SCOPE.md, 'Store': in an insert each key of a term is found or added, and the slot's bit set.
-use Prim.Native.Nat.{ℕ, zero, suc, ◌+◌, ◌-◌, ◌*◌, ◌/◌, ◌%◌, ◌≤◌, ◌<◌}
-use Rattle.std.specs.Prelude.{◌≡◌, refl, ◌⊎◌, ◌↔◌, Bool, false, eqb, get_or, set}
-use Rattle.std.proofs.Common.{sym, ap, ◌∙◌, subst, inl, inr, arith, lt-ltb, le-ltb, get_or-set_same, get_or-set_other}
+use Prim.Native.Nat.{ℕ, zero, suc, ◌+◌, ◌*◌, ◌/◌, ◌%◌, ◌≤◌, ◌<◌}
+use Rattle.std.specs.Prelude.{◌≡◌, refl, ◌⊎◌, ◌↔◌, false, get_or, set}
+use Rattle.std.proofs.Common.{sym, ◌∙◌, inl, inr, arith, lt-ltb, le-ltb, get_or-set_other}
 use Rattle.std.proofs.Math.Logic.{⊎_elim}
 use mathlib.Core.List.{List, [], ◌∷◌, ◌++◌}
 use Rattle.std.proofs.Math.Bool.{true}
 use Rattle.std.proofs.Math.Nat.{mod-eq_of_lt}
 use Rattle.std.proofs.Math.Decide.{ℕ_discrete, dec_lt}
 use Rattle.std.proofs.Math.Dec.{ltb}
-use Rattle.std.proofs.Math.ListN.{length, length-set, length-append, get_or-append}
-use Rattle.laws.specs.Members.{In, NoDup, in_append, in_left, in_right}
+use Rattle.std.proofs.Math.ListN.{length, length-set, length-append}
+use Rattle.laws.specs.Members.{In, NoDup, in_append}
 use Rattle.laws.specs.Choice.{pick}
-use Rattle.chains.specs.Chains.{Chains, find, relinked, taken, pushed, find_sound, find_complete, taken_chains}
+use Rattle.chains.specs.Chains.{Chains, find, relinked, pushed, find_sound, taken_chains}
 use Rattle.keys.specs.Keys.{Place, root, step, Key, key}
-use Rattle.paths.specs.Rep.{lab, At, top, kid, Den, Rep, Full, Unique, Plus, Above, den_fun, den_inj, find_den}
-use Rattle.paths.specs.Rep.{den_find, find_none, add_rep, add_den, set_rep, den_keep, carry}
+use Rattle.paths.specs.Rep.{lab, At, top, kid, Den, Rep, Full, Plus, Above, den_fun, find_den}
+use Rattle.paths.specs.Rep.{den_find, add_rep, add_den, set_rep, den_keep, carry}
 use Rattle.paths.specs.Free.{frees, free_found, free_less}
 use Rattle.paths.specs.TreeWalk.{kid_of, up_place, up_num, key_list}
 use Rattle.laws.specs.Sizes.{key_limit, link_length, slot_count}

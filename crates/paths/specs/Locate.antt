@@ -1,13 +1,13 @@
 -- Serves SCOPE.md, 'Paths and keys': the key numbers of a term's items, 4096 for a key that no number has.
-use Prim.Native.Nat.{ℕ, zero, suc, ◌+◌, ◌-◌, ◌*◌, ◌/◌, ◌%◌, ◌≤◌, ◌<◌}
-use Rattle.std.specs.Prelude.{◌≡◌, refl, ◌⊎◌, ◌↔◌, Bool, true, false, eqb, ltb, get_or}
-use Rattle.std.proofs.Common.{sym, ap, ◌∙◌, subst, inl, inr, ⊎_elim, arith, lt-ltb, le-ltb}
+use Prim.Native.Nat.{ℕ, zero, suc, ◌+◌, ◌*◌, ◌/◌, ◌%◌, ◌≤◌, ◌<◌}
+use Rattle.std.specs.Prelude.{◌≡◌, refl, ◌⊎◌, Bool, true, false, eqb, ltb, get_or}
+use Rattle.std.proofs.Common.{sym, ◌∙◌, inl, inr, ⊎_elim, arith, lt-ltb, le-ltb}
 use mathlib.Core.List.{List, [], ◌∷◌, ◌++◌}
-use Rattle.std.proofs.Math.Decide.{ℕ_discrete, dec_lt}
+use Rattle.std.proofs.Math.Decide.{dec_lt}
 use Rattle.std.proofs.Math.ListN.{length, length-append}
-use Rattle.laws.specs.Members.{In, NoDup}
+use Rattle.laws.specs.Members.{In}
 use Rattle.laws.specs.Choice.{pick}
-use Rattle.chains.specs.Chains.{Chains, find, found_from, find_sound}
+use Rattle.chains.specs.Chains.{find, found_from, find_sound}
 use Rattle.keys.specs.Keys.{Place, root, step, Key, key}
 use Rattle.paths.specs.Rep.{lab, lab_inj, At, top, kid, Den, Rep, find_den, find_none}
 use Rattle.paths.specs.TreeWalk.{kid_of, up_place, up_num, key_list}

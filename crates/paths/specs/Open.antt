@@ -1,12 +1,11 @@
 -- Serves SCOPE.md, 'Store': tables as an opening leaves them stand for the empty store.
-use Rattle.std.specs.Prelude.{ℕ, zero, suc, ◌+◌, ◌-◌, ◌*◌, ◌/◌, ◌%◌, ◌≤◌, ◌<◌, ◌≡◌, refl, ◌⊎◌, ◌↔◌, List, [], ◌∷◌, ◌++◌, length, get_or}
-use Rattle.std.proofs.Common.{sym, ap, ◌∙◌, inl, inr, ⊎_elim, arith}
-use Rattle.std.proofs.Math.Option.{Option, some, none}
+use Rattle.std.specs.Prelude.{ℕ, zero, suc, ◌+◌, ◌≤◌, ◌<◌, ◌≡◌, ◌⊎◌, List, [], ◌∷◌, length, get_or}
+use Rattle.std.proofs.Common.{sym, ◌∙◌, inl, inr, arith}
+use Rattle.std.proofs.Math.Option.{none}
 use Rattle.std.proofs.Math.Decide.{ℕ_discrete}
 use Rattle.laws.specs.Members.{In, NoDup}
 use Rattle.chains.specs.Chains.{Chains, Chain, Linked, end, one, home}
-use Rattle.keys.specs.Keys.{Tm}
-use Rattle.paths.specs.Rep.{Den, Rep, Full, Unique}
+use Rattle.paths.specs.Rep.{Full, Unique}
 use Rattle.paths.specs.Insert.{St, GoodTables}
 use Rattle.paths.specs.StoredTrees.{Stored}
 use Rattle.laws.specs.Sizes.{free_head, key_limit, last_key, link_length}

@@ -1,22 +1,20 @@
 -- Serves SCOPE.md, 'Store': what each slot holds; and that insert and delete of the tables are insert and delete of
 -- the store.
-use Rattle.std.specs.Prelude.{ℕ, zero, suc, ◌+◌, ◌-◌, ◌*◌, ◌/◌, ◌%◌, ◌≤◌, ◌<◌, ◌≡◌, refl, ◌⊎◌, ◌↔◌, List, [], ◌∷◌, ◌++◌, Bool, true, false, eqb, ltb, length, get_or}
-use Rattle.std.proofs.Common.{sym, ap, ◌∙◌, subst, inl, inr, ⊎_elim, append_assoc, append-nil, arith, eq-eqb, ne_eqb, eqb-true, length-append}
+use Rattle.std.specs.Prelude.{ℕ, zero, suc, ◌+◌, ◌*◌, ◌/◌, ◌%◌, ◌≤◌, ◌<◌, ◌≡◌, refl, ◌⊎◌, ◌↔◌, List, [], ◌∷◌, ◌++◌, Bool, true, false, eqb, length, get_or}
+use Rattle.std.proofs.Common.{sym, ap, ◌∙◌, subst, inl, inr, ⊎_elim, append_assoc, append-nil, arith, eq-eqb, ne_eqb, length-append}
 use Rattle.std.proofs.Math.Option.{Option, some, none}
-use Rattle.std.proofs.Math.Decide.{ℕ_discrete, dec_lt}
-use Rattle.std.proofs.lemmas.Bool.{eqb-false}
-use Rattle.laws.specs.Members.{In, NoDup, in_append}
+use Rattle.std.proofs.Math.Decide.{ℕ_discrete}
+use Rattle.laws.specs.Members.{In, NoDup}
 use Rattle.laws.specs.Choice.{pick}
-use Rattle.keys.specs.Keys.{Place, root, step, Key, key, Tm, Args, node, nil, cons, end_of, size, sizes, keys_t, keys_a}
-use Rattle.keys.specs.Keys.{HasKey, in_has, has_in, has_parent, keys_nodup}
-use Rattle.paths.specs.Rep.{Den, Rep}
+use Rattle.keys.specs.Keys.{Place, root, Key, key, Tm, Args, node, nil, cons, size, sizes, keys_t}
+use Rattle.keys.specs.Keys.{HasKey, in_has, has_in, keys_nodup}
 use Rattle.paths.specs.Free.{frees}
-use Rattle.paths.specs.TreeWalk.{kid_of, up_place, up_num, key_list, ups_t, ups_a, ends_t, ends_a, Eight, Eights}
+use Rattle.paths.specs.TreeWalk.{kid_of, up_place, key_list, ups_t, ups_a, ends_t, Eight, Eights}
 use Rattle.paths.specs.TreeWalk.{key_list_keys}
-use Rattle.paths.specs.Insert.{DenK, ResultKind, Dens, Lack, Back, EndLabels, With, rep_iff, St, GoodTables, ins_run}
+use Rattle.paths.specs.Insert.{DenK, Dens, Back, EndLabels, With, rep_iff, St, GoodTables, ins_run}
 use Rattle.paths.specs.Insert.{ins_good}
 use Rattle.paths.specs.Delete.{From, Grown, Without, del_run, del_good}
-use Rattle.paths.specs.Locate.{num_list, missing, DensM, located, lack_of, all_there}
+use Rattle.paths.specs.Locate.{num_list, missing, located, lack_of, all_there}
 use Rattle.laws.specs.Sizes.{key_limit, slot_count}
 
 -- l, the last first, and then r

@@ -1,19 +1,10 @@
 -- Serves SCOPE.md, 'Store': a term's keys set and cleared, one item after another.
-use Rattle.std.specs.Prelude.{ℕ, zero, suc, ◌+◌, ◌-◌, ◌*◌, ◌/◌, ◌%◌, ◌≤◌, ◌<◌, ◌≡◌, refl, ◌⊎◌, ◌↔◌, List, [], ◌∷◌, ◌++◌, Bool, true, false, eqb, ltb, length, get_or, set}
-use Rattle.std.proofs.Common.{sym, ap, ◌∙◌, subst, inl, inr, ⊎_elim, append_assoc, append-nil, arith, eq-eqb, ne_eqb, eqb-true, lt-ltb, le-ltb, length-set, length-append, get_or-set_same, get_or-set_other}
-use Rattle.std.proofs.Math.Decide.{ℕ_discrete, dec_lt}
-use Rattle.std.proofs.lemmas.Bool.{eqb-false}
+use Rattle.std.specs.Prelude.{ℕ, zero, suc, ◌+◌, ◌*◌, ◌/◌, ◌%◌, ◌<◌, ◌≡◌, List, [], ◌∷◌, ◌++◌, length, get_or}
+use Rattle.std.proofs.Common.{ap, ◌∙◌, append_assoc, append-nil, arith, length-append}
 use Rattle.std.proofs.Math.ListN.{get_or-append}
 use Rattle.std.proofs.Math.Seq.{get_or-append_seam}
-use Rattle.laws.specs.Members.{In, NoDup, in_append, in_left, in_right}
-use Rattle.laws.specs.Choice.{pick}
-use Rattle.chains.specs.Chains.{Chains, find, relinked, find_sound, find_complete}
-use Rattle.keys.specs.Keys.{Place, root, step, Key, key, Tm, Args, node, nil, cons, end_of, size, sizes, keys_t, keys_a}
+use Rattle.keys.specs.Keys.{Place, root, step, Key, key, Tm, Args, node, nil, cons, end_of, size, keys_t, keys_a}
 use Rattle.keys.specs.Keys.{keys_length}
-use Rattle.paths.specs.Rep.{lab, At, top, kid, Den, Rep, Full, Unique, Plus, Minus, Above, den_fun, den_inj}
-use Rattle.paths.specs.Rep.{find_den, find_none, add_rep, add_den, set_rep, clear_rep, free_rep, den_keep}
-use Rattle.paths.specs.Rep.{den_stay, carry}
-use Rattle.paths.specs.Free.{frees, free_found, free_less}
 use Rattle.laws.specs.Sizes.{root_place}
 
 -- the place of an item: `up` is 0 at the root, else 1 + 8 * (the number of its parent's item) + (the argument's number)

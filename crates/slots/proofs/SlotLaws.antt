@@ -1,7 +1,7 @@
-use Prim.Native.Nat.{ℕ, zero, suc, ◌+◌, ◌≤◌, ◌<◌}
+use Prim.Native.Nat.{ℕ, suc, ◌+◌, ◌≤◌, ◌<◌}
 use mathlib.Core.Path.{◌≡◌, refl, sym, ap, ◌∙◌}
 use mathlib.Core.List.{List, [], ◌∷◌, map}
-use lib.ListN.{length, get_or, set, take, length-map}
+use lib.ListN.{length, set, take, length-map}
 use lib.Seq.{take_all}
 use native.Mathlib.Omega.{arith}
 use Rattle.laws.proofs.Lists.{fill_turn}

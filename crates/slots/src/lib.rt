@@ -1,10 +1,12 @@
 // A set of the slots 0 to 511: slot s in word s / 64 at weight 2^(s mod 64) (SCOPE.md, 'Paths and keys').
+#![tactic(auto)]
+
 ghost use Rattle.std.specs.Prelude.{◌≡◌, eqb, replicate};
 ghost use Rattle.slots.specs.Slots.{has, inserted, removed};
 
 use laws::{SLOTS, USED};
 
-#[derive(Drop)]
+#[derive(Clone, Copy)]
 pub struct SlotSet {
     pub words: [u64; 8],
 }

@@ -1,4 +1,6 @@
 // The three kinds of variable (SCOPE.md, 'Term bytes'). A stored number and a question number meet only as written.
+#![tactic(auto)]
+
 ghost use Rattle.std.specs.Prelude.{◌≡◌, ◌+◌, ◌≤◌, ◌<◌};
 ghost use Rattle.variables.specs.Sides.{StandsFor, OfItem};
 ghost use Rattle.laws.specs.Sizes.{variable_base, variable_end, written_end};
@@ -6,26 +8,26 @@ ghost use Rattle.laws.specs.Sizes.{variable_base, variable_end, written_end};
 use laws::{VARIABLE, VARIABLE16};
 
 // A variable of a stored term, 0 to 31.
-#[derive(Drop)]
+#[derive(Clone, Copy)]
 pub struct StoredVariable(pub u8);
 
 // A variable of a question, 0 to 31.
-#[derive(Drop)]
+#[derive(Clone, Copy)]
 pub struct QuestionVariable(pub u8);
 
 // A variable where both sides appear in one written term, 0 to 63.
-#[derive(Drop)]
+#[derive(Clone, Copy)]
 pub struct WrittenVariable(pub u8);
 
 // Whose variables a term has.
-#[derive(Drop)]
+#[derive(Clone, Copy)]
 pub enum Bank {
     Stored,
     Question,
 }
 
 // The variable that a written one stands for.
-#[derive(Drop)]
+#[derive(Clone, Copy)]
 pub enum Side {
     Stored(StoredVariable),
     Question(QuestionVariable),

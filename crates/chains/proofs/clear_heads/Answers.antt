@@ -1,10 +1,7 @@
-use Prim.Native.Nat.{◌≤◌, ◌-◌, ◌+◌, ◌<◌}
 use mathlib.Core.Path.{◌≡◌}
 use native.Mathlib.Omega.{arith}
-use Rattle.chains.specs.FreeChain.{NoHeads}
 use Rattle.chains.proofs.FreeChainLaws.{heads_start, heads_turn}
-use lib.ListN.{length}
-use Rattle.laws.specs.Sizes.{free_head, last_key}
+use Rattle.laws.specs.Sizes.{free_head}
 use Rattle.chains.proofs.clear_heads.Goals as goal
 
 pub loop-i-init : goal.loop-i-init

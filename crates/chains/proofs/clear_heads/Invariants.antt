@@ -1,9 +1,5 @@
-use Prim.Native.Nat.{◌≤◌, ◌-◌, ◌+◌, ◌<◌}
-use mathlib.Core.Path.{◌≡◌}
-use native.Mathlib.Omega.{arith}
+use Prim.Native.Nat.{◌≤◌, ◌-◌}
 use Rattle.chains.specs.FreeChain.{NoHeads}
-use Rattle.chains.proofs.FreeChainLaws.{heads_start, heads_turn}
-use lib.ListN.{length}
 use Rattle.laws.specs.Sizes.{free_head, last_key}
 use Rattle.chains.proofs.clear_heads.Given as goal
 

@@ -1,11 +1,6 @@
-use borrow.Author.Rules.{rules}
-use Prim.Native.Nat.{ℕ, zero, suc, ◌≤◌, ◌-◌, ◌+◌, ◌<◌, ◌*◌, ◌%◌, ◌/◌}
-use mathlib.Core.Path.{◌≡◌, refl, sym, ap, ◌∙◌}
+use mathlib.Core.Path.{sym, ◌∙◌}
 use native.Mathlib.Omega.{arith}
-use lib.ListN.{length, get_or, set, length-set}
-use Rattle.chains.specs.Chains.{found_from, home, find, home_low}
 use Rattle.chains.proofs.ChainLaws.{found_hit, found_miss, found_none, found_out, find_start}
-use Rattle.laws.specs.Sizes.{key_limit}
 use Rattle.chains.proofs.find.Goals as goal
 
 pub loop-fuel-init : goal.loop-fuel-init

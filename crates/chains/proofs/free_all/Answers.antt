@@ -1,6 +1,4 @@
-use mathlib.Core.Path.{◌≡◌, ◌∙◌}
 use Rattle.chains.proofs.FreeChainLaws.{freed}
-use borrow.Author.Rules.{rules}
 use Rattle.chains.proofs.free_all.Goals as goal
 
 pub shape_of-link : goal.shape_of-link

@@ -1,9 +1,6 @@
-use Prim.Native.Nat.{◌≤◌, ◌-◌, ◌+◌, ◌<◌}
 use mathlib.Core.Path.{◌≡◌}
 use native.Mathlib.Omega.{arith}
-use Rattle.chains.specs.FreeChain.{FreeChain}
 use Rattle.chains.proofs.FreeChainLaws.{chain_start, chain_turn}
-use lib.ListN.{length}
 use Rattle.laws.specs.Sizes.{last_key}
 use Rattle.chains.proofs.free_chain.Goals as goal
 

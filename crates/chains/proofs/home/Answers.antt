@@ -1,8 +1,4 @@
-use borrow.Author.Rules.{rules}
-use Prim.Native.Nat.{ℕ, zero, suc, ◌≤◌, ◌-◌, ◌+◌, ◌<◌, ◌*◌, ◌%◌, ◌/◌}
-use mathlib.Core.Path.{◌≡◌, refl, sym, ap, ◌∙◌}
 use native.Mathlib.Omega.{arith}
-use lib.ListN.{length, get_or, set, length-set}
 use Rattle.chains.proofs.ChainLaws.{home_label, home_free}
 use Rattle.chains.proofs.home.Goals as goal
 

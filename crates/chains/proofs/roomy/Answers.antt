@@ -1,11 +1,6 @@
-use borrow.Author.Rules.{rules}
-use Prim.Native.Nat.{ℕ, zero, suc, ◌≤◌, ◌-◌, ◌+◌, ◌<◌, ◌*◌, ◌%◌, ◌/◌}
-use mathlib.Core.Path.{◌≡◌, refl, sym, ap, ◌∙◌}
+use mathlib.Core.Path.{sym, ◌∙◌}
 use native.Mathlib.Omega.{arith}
-use lib.ListN.{length, get_or, set, length-set}
-use Rattle.chains.specs.Chains.{longer}
 use Rattle.chains.proofs.ChainLaws.{longer_end, longer_none, longer_step}
-use Rattle.laws.specs.Sizes.{free_head}
 use Rattle.chains.proofs.roomy.Goals as goal
 
 pub loop-i-init : goal.loop-i-init

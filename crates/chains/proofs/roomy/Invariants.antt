@@ -1,10 +1,6 @@
-use borrow.Author.Rules.{rules}
-use Prim.Native.Nat.{ℕ, zero, suc, ◌≤◌, ◌-◌, ◌+◌, ◌<◌, ◌*◌, ◌%◌, ◌/◌}
-use mathlib.Core.Path.{◌≡◌, refl, sym, ap, ◌∙◌}
-use native.Mathlib.Omega.{arith}
-use lib.ListN.{length, get_or, set, length-set}
+use mathlib.Core.Path.{◌≡◌}
+use lib.ListN.{get_or}
 use Rattle.chains.specs.Chains.{longer}
-use Rattle.chains.proofs.ChainLaws.{longer_end, longer_none, longer_step}
 use Rattle.laws.specs.Sizes.{free_head}
 use Rattle.chains.proofs.roomy.Given as goal
 

@@ -1,11 +1,7 @@
-use borrow.Author.Rules.{rules}
-use Prim.Native.Nat.{ℕ, zero, suc, ◌≤◌, ◌-◌, ◌+◌, ◌<◌, ◌*◌, ◌%◌, ◌/◌}
-use mathlib.Core.Path.{◌≡◌, refl, sym, ap, ◌∙◌}
+use mathlib.Core.Path.{◌≡◌, sym, ◌∙◌}
 use native.Mathlib.Omega.{arith}
-use lib.ListN.{length, get_or, set, length-set}
-use Rattle.chains.specs.Chains.{unlink}
+use lib.ListN.{get_or, length-set}
 use Rattle.chains.proofs.ChainLaws.{unlink_hit, unlink_miss, unlink_none, unlink_out}
-use Rattle.laws.specs.Sizes.{key_limit, link_length}
 use Rattle.chains.proofs.unlink.Goals as goal
 
 pub returns-then-x-eq0 : goal.returns-then-x-eq0

@@ -1,10 +1,7 @@
-use borrow.Author.Rules.{rules}
-use Prim.Native.Nat.{ℕ, zero, suc, ◌≤◌, ◌-◌, ◌+◌, ◌<◌, ◌*◌, ◌%◌, ◌/◌}
-use mathlib.Core.Path.{◌≡◌, refl, sym, ap, ◌∙◌}
-use native.Mathlib.Omega.{arith}
-use lib.ListN.{length, get_or, set, length-set}
+use Prim.Native.Nat.{◌≤◌, ◌<◌}
+use mathlib.Core.Path.{◌≡◌}
+use lib.ListN.{length, get_or}
 use Rattle.chains.specs.Chains.{unlink}
-use Rattle.chains.proofs.ChainLaws.{unlink_hit, unlink_miss, unlink_none, unlink_out}
 use Rattle.laws.specs.Sizes.{key_limit, link_length}
 use Rattle.chains.proofs.unlink.Given as goal
 

@@ -1,6 +1,5 @@
 use native.Mathlib.Omega.{arith}
 use Rattle.terms.proofs.TermLaws.{brings_symbol, brings_variable, brings_low, brings_high}
-use borrow.Author.Rules.{rules}
 use Rattle.checking.proofs.brings.Goals as goal
 
 pub returns-then-x-sig : goal.returns-then-x-sig

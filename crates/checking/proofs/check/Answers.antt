@@ -1,6 +1,5 @@
-use mathlib.Core.Path.{◌≡◌, sym, ◌∙◌}
+use mathlib.Core.Path.{sym, ◌∙◌}
 use borrow.Author.Tests.{eqb-true}
-use borrow.Author.Rules.{rules}
 use Rattle.checking.proofs.check.Goals as goal
 
 pub returns-then-is_term : goal.returns-then-is_term

@@ -1,7 +1,5 @@
 use native.Mathlib.Omega.{arith}
-use Prim.Native.Nat.{◌-◌}
-use lib.ListN.{length}
-use Rattle.terms.proofs.TermLaws.{untaken, odd_out, Passing, passing_start, passing_turn, passing_closed, passing_end}
+use Rattle.terms.proofs.TermLaws.{untaken, odd_out, passing_start, passing_turn, passing_closed, passing_end}
 use Rattle.checking.proofs.is_term.Goals as goal
 
 pub returns-then-t-gt64 : goal.returns-then-t-gt64

@@ -1,7 +1,6 @@
-use native.Mathlib.Omega.{arith}
 use Prim.Native.Nat.{◌-◌}
 use lib.ListN.{length}
-use Rattle.terms.proofs.TermLaws.{untaken, odd_out, Passing, passing_start, passing_turn, passing_closed, passing_end}
+use Rattle.terms.proofs.TermLaws.{Passing}
 use Rattle.checking.proofs.is_term.Given as goal
 
 abbrev pub invariant-loop-at : goal.invariant-loop-at

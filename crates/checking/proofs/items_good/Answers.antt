@@ -2,13 +2,10 @@ use Rattle.terms.specs.Terms.{declared as is_declared}
 use mathlib.Core.Bool.{true, false}
 use Prim.Native.Nat.{◌*◌}
 use lib.ListN.{length-drop}
-use borrow.Author.Tests.{not-true, not-false}
-use Prim.Native.Nat.{◌≤◌, ◌-◌, ◌+◌, ◌<◌}
-use mathlib.Core.Path.{◌≡◌, refl, sym, ◌∙◌}
+use Prim.Native.Nat.{◌≤◌, ◌+◌}
+use mathlib.Core.Path.{◌≡◌, sym, ◌∙◌}
 use native.Mathlib.Omega.{arith}
-use borrow.Author.Rules.{rules}
-use lib.ListN.{length, drop, get_or}
-use Rattle.terms.specs.Terms.{items_good}
+use lib.ListN.{length, get_or}
 use Rattle.terms.proofs.TermLaws.{items_step, items_short}
 use Rattle.laws.proofs.Lists.{tail_part}
 use Rattle.checking.proofs.items_good.Goals as goal

@@ -1,9 +1,8 @@
-use borrow.Author.Tests.{le-ltb, lt-ltb, eq-eqb, ne_eqb, not-true, not-false}
+use borrow.Author.Tests.{le-ltb, lt-ltb, eq-eqb, ne_eqb}
 use mathlib.Core.Path.{◌≡◌, sym, ◌∙◌}
 use lib.ListN.{length}
 use native.Mathlib.Omega.{arith}
 use Rattle.terms.specs.Terms.{refusal, span}
-use borrow.Author.Rules.{rules}
 use Rattle.checking.proofs.refused_term.Goals as goal
 
 pub returns-then-t-gt64 : goal.returns-then-t-gt64
@@ -27,7 +26,7 @@ pub returns-then-walk-t : goal.returns-then-walk-t
 unfolding refusal
 returns-then-walk-t c = let b = c in
     let a = b.args in
-    let g = sym b.items_good.ensures ∙ not-false b.items_good.result b.if-not-items_good.false in
+    let g = sym b.items_good.ensures ∙ b.if-not-items_good.false in
     let e : span a.sig.now a.t.now 1 ≡ length a.t.now = omega (arith, c.walk.ensures, c.if-walk-t.true) in
     rw (le-ltb _ _ b.if-t-gt64.false, ne_eqb _ _ b.if-t-eq0.false, ne_eqb _ _ b.if-t-eq1.false, g, eq-eqb _ _ e)
 
@@ -35,6 +34,6 @@ pub returns-else-walk-t : goal.returns-else-walk-t
 unfolding refusal
 returns-else-walk-t c = let b = c in
     let a = b.args in
-    let g = sym b.items_good.ensures ∙ not-false b.items_good.result b.if-not-items_good.false in
+    let g = sym b.items_good.ensures ∙ b.if-not-items_good.false in
     let e : span a.sig.now a.t.now 1 ≡ length a.t.now → ⊥ = omega (arith, c.walk.ensures, c.if-walk-t.false) in
     rw (le-ltb _ _ b.if-t-gt64.false, ne_eqb _ _ b.if-t-eq0.false, ne_eqb _ _ b.if-t-eq1.false, g, ne_eqb _ _ e)

@@ -1,13 +1,6 @@
-use Prim.Native.Nat.{◌≤◌, ◌-◌, ◌+◌, ◌<◌, ◌*◌}
-use mathlib.Core.Path.{◌≡◌, refl, sym, ap, ◌∙◌}
-use mathlib.Core.Bool.{true, false}
-use native.Mathlib.Omega.{arith}
-use borrow.Author.Rules.{rules}
-use borrow.Author.Tests.{lt-ltb, le-ltb, not-true, not-false}
-use lib.ListN.{length, drop, get_or, length-drop}
-use Rattle.laws.proofs.Lists.{tail_part}
-use Rattle.keys.specs.Bytes.{is_key, steps_good, step_good, end_good}
-use Rattle.keys.proofs.KeyLaws.{steps_more, steps_end, steps_short}
+use mathlib.Core.Path.{◌≡◌}
+use lib.ListN.{length}
+use Rattle.keys.specs.Bytes.{steps_good}
 use Rattle.keys.proofs.is_key.Given as goal
 
 abbrev pub invariant-loop-rest : goal.invariant-loop-rest

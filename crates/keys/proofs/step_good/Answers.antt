@@ -1,7 +1,5 @@
-use mathlib.Core.Path.{◌≡◌, sym, ◌∙◌}
 use borrow.Author.Tests.{lt-ltb, le-ltb, eq-eqb, ne_eqb}
 use Rattle.keys.specs.Bytes.{step_good}
-use borrow.Author.Rules.{rules}
 use Rattle.keys.proofs.step_good.Goals as goal
 
 pub returns-then-sig-f : goal.returns-then-sig-f

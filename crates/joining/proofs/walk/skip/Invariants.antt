@@ -1,0 +1,10 @@
+use Prim.Native.Nat.{◌-◌}
+use lib.ListN.{length}
+use Rattle.theory.specs.ItemWalk.{Walk}
+use Rattle.joining.proofs.walk.skip.Given as goal
+
+abbrev pub invariant-loop-opened : goal.invariant-loop-opened
+invariant-loop-opened l = Walk l.sig l.pool l.p l.opened l.i
+
+abbrev pub decreases-loop-opened : goal.decreases-loop-opened
+decreases-loop-opened l = length l.pool - l.i
