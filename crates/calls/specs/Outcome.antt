@@ -6,7 +6,6 @@ use Rattle.std.proofs.Common.{sym, ap, ◌∙◌}
 use Rattle.std.proofs.lemmas.List.Edits.{sets}
 use Rattle.laws.specs.Choice.{pick}
 use Rattle.refusals.specs.declared.Refusal.{Refusal}
-use Rattle.refusals.specs.declared.Refusal.TheVariants as Refusal
 use Rattle.refusals.specs.Refusals.{number_of}
 use Rattle.refusals.specs.Numbers.{number_some, number_one}
 use Rattle.definitions.specs.Answers.{Answer, refused, done, refusal_in, first_in, second_in, written, unless, refuse}

@@ -1,15 +1,17 @@
 // A call over the lent tables by its order, and what every call answers: up to two numbers, or the name of its refusal
 // (SCOPE.md, 'Numbers of refusal').
+#![tactic(auto)]
+
 use refusals::Refusal;
 
-#[derive(Drop)]
+#[derive(Clone, Copy)]
 pub enum Reply {
     Done(usize, usize),
     Refused(Refusal),
 }
 
 // A call and its number: a slot, or the number of a relation. Nothing orders no call.
-#[derive(Drop)]
+#[derive(Clone, Copy)]
 pub enum Order {
     Open,
     Insert,

@@ -5,7 +5,7 @@ ghost use Rattle.std.specs.Prelude.{◌≡◌};
 ghost use Rattle.refusals.specs.Refusals.{number_of, checked_number};
 
 // Why a call is refused, in the order of SCOPE.md's numbers.
-#[derive(Drop)]
+#[derive(Clone, Copy)]
 pub enum Refusal {
     Table,
     Signature,
@@ -52,7 +52,7 @@ impl Refusal {
 }
 
 // What a check answers.
-#[derive(Drop)]
+#[derive(Clone, Copy)]
 pub enum Checked {
     Good,
     Refused(Refusal),
