@@ -1,6 +1,6 @@
 -- Laws of the text of a case: each way out of src/lib.rt is the definition of CaseText.antt.
-use Rattle.std.proofs.Common.{◌≡◌, ℕ, zero, suc, ◌+◌, ◌-◌, ◌*◌, ◌/◌, ◌%◌, ◌<◌, ◌≤◌, min, Bool, true, false, eqb, ltb, leb, List, [], ◌∷◌, length, get_or, take, drop, set, sym, refl, ap, ◌∙◌, add-zero, add-one, arith, length-set, drop_of_length-le, drop-cons, get_or-set_other, get_or-set_same, le-ltb, lt-ltb, eq-eqb, ne_eqb, le-leb}
-use native.Mathlib.Decide.{dec_le, dec_lt}
+use Rattle.std.proofs.Common.{◌≡◌, ℕ, suc, ◌+◌, ◌-◌, ◌*◌, ◌/◌, ◌%◌, ◌<◌, ◌≤◌, min, Bool, true, false, eqb, List, length, get_or, take, drop, set, sym, refl, ap, ◌∙◌, add-zero, add-one, arith, length-set, drop_of_length-le, drop-cons, get_or-set_other, get_or-set_same, le-ltb, lt-ltb, ne_eqb, le-leb}
+use native.Mathlib.Decide.{dec_lt}
 use borrow.Author.Tests.{lt-leb}
 use lib.ListN.{get_or-eq_default}
 use Rattle.laws.specs.Choice.{pick}

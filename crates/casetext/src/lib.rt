@@ -1,4 +1,6 @@
 // The text of the cases: one case a line, of four words with single blanks between them.
+#![tactic(auto)]
+
 ghost use Rattle.std.specs.Prelude.{◌≡◌, ◌+◌, ◌<◌, ◌≤◌, min, length, ◌==◌, slice_index};
 ghost use Rattle.laws.specs.Choice.{pick};
 ghost use Rattle.casetext.specs.CaseText.{word_end, past_blank, next_line, number_in, digit_of, hex_at, HexRead};

@@ -3,12 +3,11 @@ use Prim.Native.Nat.{ℕ, zero, suc, ◌+◌, ◌-◌, ◌*◌, ◌/◌, ◌%◌
 use mathlib.Core.Path.{◌≡◌, refl, sym, ap, ◌∙◌}
 use mathlib.Core.List.{List, [], ◌∷◌, ◌++◌, append_assoc, append-nil}
 use native.Mathlib.Omega.{arith}
-use native.Mathlib.Nat.{add-zero, add-suc}
+use native.Mathlib.Nat.{add-zero}
 use native.Mathlib.Numerals.{add-one}
 use native.Mathlib.Decide.{dec_le, dec_lt}
-use lib.ListN.{length, set, get_or, take, drop, length-set, length-append}
-use lib.Seq.{sets, length-sets, set_out, take-suc, take-length, drop-cons}
-use lib.Dec.{ltb}
+use lib.ListN.{length, set, get_or, take, drop, length-append}
+use lib.Seq.{sets, length-sets, set_out, take-suc}
 use borrow.Author.Tests.{lt-ltb, le-ltb}
 use Rattle.laws.proofs.Lists.{tail_part}
 use Rattle.lines.specs.Lines.{Put, digits, decimal, hex, slot_list, figure, record_text}

@@ -1,4 +1,6 @@
 // The lines of the answers to a log (SCOPE.md, 'The log program').
+#![tactic(auto)]
+
 mod line;
 mod put;
 
