@@ -12,12 +12,15 @@ ghost use Rattle.layout.specs.Tables.{held};
 ghost use Rattle.calls.specs.Outcome.{outcome};
 ghost use Rattle.cases.specs.Lent.{lent_length, case_outcome, room_after, case_after};
 
+use std::io;
+use std::io::Write;
+
 use calls::Reply;
 use caselines::{order_of, say};
 use casetext::{Case, case_at};
 use laws::{ANSWER, BYTES, LABEL, LINK, SETS, USED};
-use libc::{STDIN_FILENO, STDOUT_FILENO};
 use orders::call;
+use reading::read_full;
 
 // The line, how many calls of its case are done, the length of the answer buffer, and the table that is lent too short.
 #[derive(Drop)]
@@ -100,24 +103,32 @@ fn lend(
 }
 
 // Writes the first n bytes of a line to standard output.
-fn show(line: &[u8], n: usize) {
+fn show<W: Write>(output: &mut W, line: &[u8], n: usize) -> io::Result<()> {
     if n <= line.len() {
-        io::write_all(STDOUT_FILENO, &line[..n]);
+        output.write_all(&line[..n])?;
     }
+    Ok(())
 }
 
 // Writes a case's line after its last call.
-fn finish(case: Case, reply: Reply, head: &[u8], given: &[u8; 512], out: &[u8; ANSWER])
+fn finish<W: Write>(
+    output: &mut W,
+    case: Case,
+    reply: Reply,
+    head: &[u8],
+    given: &[u8; 512],
+    out: &[u8; ANSWER],
+) -> io::Result<()>
     requires { case.length ≤ 512 }
 {
     if 0 < case.left {
-        return;
+        return Ok(());
     }
     let n = case.length;
     let term = &given[..];
     let mut line = [0u8; 4096];
     let said = say(case, reply, head, &term[..n], out, &mut line);
-    show(&line, said);
+    show(output, &line, said)
 }
 
 // The room that a case sets, as far as there is any.
@@ -162,7 +173,7 @@ fn place_after(case: Case, place: Place) -> Place
 }
 
 // Runs case after case.
-fn main() {
+fn main(rt: HostRuntime) -> io::Result<()> {
     let mut input = [0u8; 65536];
     let mut given = [0u8; 512];
     let mut bytes = [0u8; BYTES];
@@ -174,7 +185,7 @@ fn main() {
     let mut s2 = [0u64; SETS];
     let mut s3 = [0u64; SETS];
     let mut out = [0u8; ANSWER];
-    let n = io::read_full(STDIN_FILENO, &mut input);
+    let n = read_full(&mut rt.stdin(), &mut input)?;
     let mut place = start();
     while place.at < n {
         let at = place.at;
@@ -184,7 +195,8 @@ fn main() {
             case, place, &given, &mut bytes, &mut used, &mut label, &mut link, &mut s0, &mut s1,
             &mut s2, &mut s3, &mut out,
         );
-        finish(case, reply, &input[at..shown], &given, &out);
+        finish(&mut rt.stdout(), case, reply, &input[at..shown], &given, &out)?;
         place = place_after(case, place);
     }
+    Ok(())
 }

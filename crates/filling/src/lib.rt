@@ -1,4 +1,6 @@
 // What is written into the lent tables: nothing yet, the signature, a term, the slots in use (docs/TABLES.md).
+#![tactic(auto)]
+
 ghost use Rattle.std.specs.Prelude.{◌≡◌, ◌+◌, ◌≤◌, ◌<◌, length};
 ghost use Rattle.std.proofs.lemmas.List.Edits.{sets};
 ghost use Rattle.layout.specs.Layout.{used_of, blank, signed, with_term};

@@ -1,20 +1,24 @@
 // Replays an operation log from standard input (SCOPE.md, 'The log program'): reads it, and turn after turn writes a
 // line. What each turn does, and that the lines are those of the definition, stands in crate turns.
+use std::io;
+use std::io::Write;
+
 use laws::{ANSWER, BYTES, INPUT, LABEL, LINE, LINK, SETS, USED};
-use libc::{STDIN_FILENO, STDOUT_FILENO};
+use reading::read_full;
 use turns::turn;
 
 // Writes the first n bytes of a line to standard output.
-fn show(line: &[u8; LINE], n: usize) {
+fn show<W: Write>(output: &mut W, line: &[u8; LINE], n: usize) -> io::Result<()> {
     let whole = &line[..];
     if n <= whole.len() {
-        io::write_all(STDOUT_FILENO, &whole[..n]);
+        output.write_all(&whole[..n])?;
     }
+    Ok(())
 }
 
 // Takes field after field, the first from the start of the input. One byte more than the limit tells that an input is
 // too long.
-fn main() {
+fn main(rt: HostRuntime) -> io::Result<()> {
     let mut input = [0u8; INPUT + 1];
     let mut bytes = [0u8; BYTES];
     let mut used = [0u64; USED];
@@ -26,7 +30,7 @@ fn main() {
     let mut s3 = [0u64; SETS];
     let mut out = [0u8; ANSWER];
     let mut line = [0u8; LINE];
-    let n = io::read_full(STDIN_FILENO, &mut input);
+    let n = read_full(&mut rt.stdin(), &mut input)?;
     let mut at: usize = 0;
     while at < n {
         let done = turn(
@@ -43,7 +47,8 @@ fn main() {
             &mut out,
             &mut line,
         );
-        show(&line, done.length);
+        show(&mut rt.stdout(), &line, done.length)?;
         at = done.next;
     }
+    Ok(())
 }

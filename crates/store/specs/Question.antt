@@ -123,7 +123,7 @@ module _ (link label : List ℕ) (mem' : ℕ → ℕ → Type 0) (R : ℕ → Pl
   number_means sig p P (a ∷ b ∷ i ∷ k) g w h =
       let q = taken (step_good sig (a * 256 + b) i) _ h in
       let s = step_small sig (a * 256 + b) i g q.0 in
-      number_means sig _ (step P (a * 256 + b) (i - 1)) k g (going p (a * 256 + b) (i - 1) P w s.0 s.1) q.1
+      number_means sig (find link label (lab p (a * 256 + b)) * 8 + (i - 1)) (step P (a * 256 + b) (i - 1)) k g (going p (a * 256 + b) (i - 1) P w s.0 s.1) q.1
 
 -- the slots of a key among those of a set
 met_has : (S : Sets) (m : ℕ) (ws : List ℕ) (s : ℕ) → m < key_limit → s < slot_count → has (met S m ws) s ≡ min (bit (word S m (s / 64)) (s % 64)) (has ws s)

@@ -1,4 +1,6 @@
 // Unification of two terms, by nodes: a node is an item of `pool`, which holds the terms one after another.
+#![tactic(auto)]
+
 ghost use Rattle.std.specs.Prelude.{◌≡◌, ℕ, ◌^◌, ◌<◌, length, get_or};
 ghost use Rattle.joining.specs.Run.{Given, BindingTable, Led, UnifierEnds};
 ghost use Rattle.unify.specs.Face.{Faced};
