@@ -1,4 +1,6 @@
 // The argument of a term, as a part of the term's own bytes (SCOPE.md, 'Term bytes').
+#![tactic(auto)]
+
 ghost use Rattle.std.specs.Prelude.{◌≡◌, ◌+◌, ◌≤◌, length, drop};
 ghost use Rattle.refusals.specs.Refusals.{checked_number};
 ghost use Rattle.terms.specs.Terms.{span, arg_refusal, arg_bytes, arg_start};
