@@ -7,14 +7,13 @@ use native.Mathlib.Decide.{ℕ_discrete}
 use native.Mathlib.Omega.{arith}
 use native.Mathlib.Numerals.{add-one, sub-one}
 use borrow.Author.Tests.{le-leb, lt-leb, ne_eqb}
-use lib.Dec.{leb}
 use lib.ListN.{length, get_or, set, take, drop}
 use lib.Seq.{get_or-set_same, get_or-set_other, sets, sets-eq, length-sets, take-append_seam}
 use Rattle.terms.specs.Terms.{numbers}
 use Rattle.terms.proofs.TermLaws.{length_numbers}
 use Rattle.laws.specs.Choice.{pick}
 use Rattle.slots.specs.Slots.{either}
-use Rattle.keys.specs.Keys.{Tm, Args, node, nil, cons}
+use Rattle.keys.specs.Keys.{Args, node}
 use Rattle.chains.specs.Chains.{find}
 use Rattle.keysets.specs.KeySets.{Sets, met}
 use Rattle.paths.specs.Rep.{lab}

@@ -1,9 +1,9 @@
 -- Serves SCOPE.md, 'Paths and keys' (candidates): laws of the trees that items spell: how many items they have, and
 -- how a walk passes from one to the next.
-use Prim.Native.Nat.{ℕ, zero, suc, ◌+◌, ◌-◌, ◌*◌, ◌≤◌, ◌<◌}
+use Prim.Native.Nat.{ℕ, zero, suc, ◌+◌, ◌-◌, ◌≤◌, ◌<◌}
 use Rattle.std.specs.Prelude.{◌≡◌, List, [], ◌∷◌, length, get_or, drop}
 use Rattle.std.proofs.Math.Path.{refl, ap}
-use Rattle.std.proofs.Common.{sym, ◌∙◌, add-one, sub-one, length-drop, drop_of_length-le, drop-cons}
+use Rattle.std.proofs.Common.{sym, ◌∙◌, add-one, length-drop, drop_of_length-le, drop-cons}
 use native.Mathlib.Omega.{arith}
 use Rattle.keys.specs.Keys.{Tm, Args, node, nil, cons, size, sizes}
 use Rattle.definitions.specs.Trees.{firsts, arguments_after, forest, top}

@@ -1,7 +1,7 @@
 -- Serves SCOPE.md, 'Paths and keys' (candidates): from no slots the walk leaves none, so a walk may stop where a set
 -- is empty.
-use Rattle.std.specs.Prelude.{ℕ, zero, suc, ◌+◌, ◌*◌, ◌≤◌, ◌<◌, ◌≡◌, refl, List, [], ◌∷◌, Bool, true, false, leb, ltb, eqb, length, get_or, replicate}
-use Rattle.std.proofs.Common.{sym, ap, ◌∙◌, arith, eqb-true}
+use Rattle.std.specs.Prelude.{ℕ, suc, ◌*◌, ◌≡◌, refl, List, [], ◌∷◌, Bool, true, false, leb, ltb, length, get_or, replicate}
+use Rattle.std.proofs.Common.{sym, arith, eqb-true}
 use Rattle.std.specs.Int.Bits.{bit_and, bit_or, and_zero_r, or_zero_r, or_add_and}
 use Rattle.std.proofs.lemmas.Nat.{and_le_l, and_le_r}
 use Rattle.laws.specs.Choice.{pick}

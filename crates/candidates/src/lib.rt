@@ -1,4 +1,6 @@
 // The candidate walk: the slots whose term agrees with the question at each place met (SCOPE.md, 'Paths and keys').
+#![tactic(auto)]
+
 ghost use Rattle.std.specs.Prelude.{◌≡◌, ℕ, ◌+◌, ◌-◌, ◌*◌, ◌/◌, ◌≤◌, ◌<◌, length, get_or, drop};
 ghost use Rattle.keysets.specs.KeySets.{four};
 ghost use Rattle.definitions.specs.Candidates.{opens, stars as stars_of};
@@ -18,7 +20,7 @@ use termkeys::{label_of, place_below};
 use terms::arity;
 
 // Which variables agree with anything at their place: the question's, the stored term's.
-#[derive(Drop)]
+#[derive(Clone, Copy)]
 pub struct Rule {
     pub open: bool,
     pub stars: bool,

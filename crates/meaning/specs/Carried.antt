@@ -7,7 +7,6 @@ use Rattle.std.proofs.lemmas.List.Edits.{sets}
 use Rattle.laws.specs.Choice.{pick}
 use Rattle.slots.specs.Slots.{members}
 use Rattle.refusals.specs.declared.Refusal.{Refusal}
-use Rattle.refusals.specs.declared.Refusal.TheVariants as Refusal
 use Rattle.refusals.specs.Refusals.{number_of}
 use Rattle.terms.specs.Terms.{sig_refusal, arities_good, items_good, span, refusal}
 use Rattle.keys.specs.Bytes.{is_key}
@@ -22,7 +21,7 @@ use Rattle.layout.specs.Layout.{signature_of, is_used, term_of}
 use Rattle.library.specs.Store.{Call, open_with, insert, delete, with_key, retrieve, solve}
 use Rattle.calls.specs.declared.Reply.{Reply}
 use Rattle.calls.specs.declared.Reply.TheVariants.{Done, Refused}
-use Rattle.calls.specs.Outcome.{Outcome, outcome, Result, result, guarded, told}
+use Rattle.calls.specs.Outcome.{Outcome, outcome, Result, guarded}
 use Rattle.store.specs.Tables.{ups_of, ends_of, room_for, opened_with, free_slot, inserted_at, deleted_at, slots_of_key}
 use Rattle.store.specs.Calls.{opening, insert_answer, inserting, deleting, key_question}
 use Rattle.retrieve.specs.Retrieving.{answers_of, retrieve_answer, retrieving}

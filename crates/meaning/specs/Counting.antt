@@ -1,7 +1,7 @@
 -- SCOPE.md, 'Numbers of refusal': the number of distinct keys of a store is the number that the key table counts by;
 -- refusal 12.
 use Prim.Native.Nat.{ℕ, zero, suc, ◌+◌, ◌≤◌, ◌<◌}
-use Rattle.std.specs.Prelude.{◌≡◌, refl, ◌⊎◌, ◌↔◌, List, ◌++◌, Bool, true, false, ltb}
+use Rattle.std.specs.Prelude.{◌≡◌, refl, ◌↔◌, List, ◌++◌, Bool, true, false, ltb}
 use Rattle.std.proofs.Common.{subst, arith, ne_eqb, lt-ltb, le-ltb}
 use Rattle.std.proofs.Math.Logic.{⊎_elim}
 use Rattle.std.proofs.Math.Option.{Option, some, none}

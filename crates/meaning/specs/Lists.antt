@@ -1,9 +1,9 @@
 -- Serves SCOPE.md, 'Store' and 'Numbers of refusal': the listings of sets of slots are the listings of stores, and
 -- the smallest free slot of the words is that of the store.
-use Rattle.std.specs.Prelude.{ℕ, zero, suc, ◌+◌, ◌-◌, ◌*◌, ◌≤◌, ◌<◌, ◌≡◌, refl, ◌↔◌, List, [], ◌∷◌, Bool, true, false, eqb, length}
+use Rattle.std.specs.Prelude.{ℕ, zero, suc, ◌+◌, ◌-◌, ◌≤◌, ◌<◌, ◌≡◌, refl, ◌↔◌, List, Bool, true, false, eqb}
 use Rattle.std.proofs.Common.{arith, eq-eqb, eqb-true, lt-ltb}
 use Rattle.laws.specs.Choice.{pick}
-use Rattle.slots.specs.Slots.{has, others, members, members_from, listed}
+use Rattle.slots.specs.Slots.{has, others, members, members_from}
 use Rattle.layout.specs.Layout.{used_of, is_used}
 use Rattle.definitions.specs.Spelt.{clash}
 use Rattle.library.specs.Store.{Store, slots_from, slots_with, in_use, free_from, first_free}

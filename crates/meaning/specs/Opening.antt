@@ -7,7 +7,7 @@ use borrow.Author.Tests.{eqb-true, eq-eqb}
 use Rattle.std.proofs.Math.Dec.{eqb}
 use Rattle.laws.specs.Choice.{pick}
 use Rattle.terms.specs.Terms.{sig_refusal}
-use Rattle.definitions.specs.Answers.{Answer, refused, opened, refusal_in}
+use Rattle.definitions.specs.Answers.{refused, opened, refusal_in}
 use Rattle.layout.specs.Tables.{Tables, ample}
 use Rattle.library.specs.Store.{open_with, empty}
 use Rattle.calls.specs.Outcome.{Outcome}

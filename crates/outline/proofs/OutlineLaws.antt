@@ -3,7 +3,7 @@ use mathlib.Core.Path.{◌≡◌, refl, sym, ap, ◌∙◌}
 use mathlib.Core.List.{List, [], ◌∷◌, ◌++◌, append_assoc, append-nil}
 use lib.ListN.{length, get_or, set, take, drop, replicate, drop_of_length-le}
 use lib.Seq.{drop-cons, drop-drop, drop-set-lt, get_or-set_same, take-suc-set}
-use native.Mathlib.Numerals.{add-one, sub-one}
+use native.Mathlib.Numerals.{add-one}
 use native.Mathlib.Omega.{arith}
 use Rattle.paths.specs.Ups.{kids, ups_f}
 

@@ -1,5 +1,7 @@
 // A term's items as the key table needs them: each item's number, what stands at its end of path, and where it hangs.
 // An item's up is 0 at the root, else 1 + 8 * (its parent's item) + (its argument's number from 0).
+#![tactic(auto)]
+
 ghost use Rattle.std.specs.Prelude.{◌≡◌, ◌++◌, map, ℕ, ◌+◌, ◌-◌, ◌*◌, ◌/◌, ◌≤◌, ◌<◌, length, drop};
 ghost use Rattle.std.proofs.lemmas.List.Edits.{sets};
 ghost use Rattle.keys.specs.Keys.{end_of};

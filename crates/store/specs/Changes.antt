@@ -1,6 +1,6 @@
 -- SCOPE.md, 'Store': insert and delete of the tables are insert and delete of the store, in the smallest free slot;
 -- refusal 12.
-use Rattle.std.specs.Prelude.{ℕ, zero, suc, ◌+◌, ◌-◌, ◌*◌, ◌≤◌, ◌<◌, ◌≡◌, refl, ◌↔◌, List, [], map, true, false, ltb, eqb, length, take}
+use Rattle.std.specs.Prelude.{ℕ, zero, suc, ◌+◌, ◌*◌, ◌≤◌, ◌<◌, ◌≡◌, refl, ◌↔◌, List, [], map, true, false, ltb, eqb, length, take}
 use Rattle.std.proofs.Common.{sym, ap, ◌∙◌, subst, inl, inr, arith, eq-eqb, ne_eqb, lt-ltb, le-ltb, length-append, take_all}
 use Rattle.std.proofs.Math.Option.{Option, some, none}
 use Rattle.std.proofs.Math.Decide.{ℕ_discrete, dec_lt}
@@ -21,7 +21,7 @@ use Rattle.paths.specs.Insert.{ResultKind, With}
 use Rattle.paths.specs.Locate.{num_list, missing, located as located_keys, lack_of}
 use Rattle.paths.specs.StoredTrees.{Stored, KeyIn, put_tree, Storable, fine_back, fine_nodup, fine_in}
 use Rattle.paths.specs.SpeltKeys.{spelt}
-use Rattle.paths.specs.Count.{Distinct, keys_then, keys_refused}
+use Rattle.paths.specs.Count.{Distinct, keys_refused}
 use Rattle.termkeys.specs.TermKeysMean.{GoodSt, insert_means, delete_means, fill_nums}
 use Rattle.layout.specs.Layout.{term_of, used_of, is_used, with_term}
 use Rattle.layout.proofs.LayoutLaws.{signature_good, length_with_term}

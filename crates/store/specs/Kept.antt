@@ -1,5 +1,5 @@
 -- Serves SCOPE.md, 'Store': what the writes of the store leave of the signature, the terms and the slots in use.
-use Rattle.std.specs.Prelude.{ℕ, zero, suc, ◌+◌, ◌-◌, ◌*◌, ◌/◌, ◌%◌, ◌^◌, ◌≤◌, ◌<◌, min, ◌≡◌, refl, List, [], ◌∷◌, Bool, true, false, ltb, set, take, drop, replicate}
+use Rattle.std.specs.Prelude.{ℕ, zero, suc, ◌+◌, ◌-◌, ◌*◌, ◌/◌, ◌%◌, ◌^◌, ◌≤◌, ◌<◌, ◌≡◌, refl, List, [], ◌∷◌, Bool, true, false, ltb, set, take, drop, replicate}
 use Rattle.std.proofs.Common.{sym, ◌∙◌, le-ltb, le-leb, ltb-false, length-take, length-drop, ext_get_or, get_or-take, get_or-drop, get_or-set_same}
 use native.Mathlib.Omega.{arith}
 use Rattle.std.proofs.Math.Decide.{ℕ_discrete, dec_lt}

@@ -1,5 +1,7 @@
 // What insert and delete share: a term's outline and the numbers of its keys (SCOPE.md, 'Store'). The calls stand in
 // crates of their own (opening, inserting, deleting, keyquestion), what they mean in specs/.
+#![tactic(auto)]
+
 ghost use Rattle.std.specs.Prelude.{◌≡◌, ◌≤◌, ◌<◌, length, take};
 ghost use Rattle.terms.specs.Terms.{Signed};
 ghost use Rattle.store.specs.Tables.{Outlined, no_numbers, located, KeysIn, room_for};
@@ -8,7 +10,7 @@ ghost use Rattle.laws.specs.Sizes.{bytes_length, key_limit, link_length, slot_co
 use chains::roomy;
 
 // A term's items as its keys need them.
-#[derive(Drop)]
+#[derive(Clone, Copy)]
 pub struct Outline {
     pub items: usize,
     pub ups: [u8; 32],

@@ -1,11 +1,11 @@
 use Prim.Native.Nat.{ℕ, zero, suc, ◌+◌, ◌-◌, ◌*◌, ◌/◌, ◌%◌, ◌≤◌, ◌<◌}
 use mathlib.Core.Path.{◌≡◌, refl, sym, ap, ◌∙◌}
-use mathlib.Core.List.{List, [], ◌∷◌, ◌++◌}
+use mathlib.Core.List.{List}
 use lib.ListN.{length, get_or, set, drop, drop_of_length-le}
 use lib.Seq.{drop-cons}
 use mathlib.Core.Bool.{Bool, true, false}
 use lib.Dec.{ltb}
-use native.Mathlib.Numerals.{add-one, sub-one}
+use native.Mathlib.Numerals.{add-one}
 use native.Mathlib.Omega.{arith}
 use borrow.Author.Tests.{lt-ltb, le-ltb}
 use Rattle.laws.specs.Choice.{pick}
@@ -16,7 +16,7 @@ use Rattle.paths.specs.Rep.{lab}
 use Rattle.paths.specs.TreeWalk.{up_num}
 use Rattle.paths.specs.Insert.{St, key_for, ensured, marked, entered}
 use Rattle.paths.specs.Delete.{freed, cleared, left}
-use Rattle.termkeys.specs.Fill.{tables, fill, tables_and, Both, ins_fill, del_fill}
+use Rattle.termkeys.specs.Fill.{tables, fill, tables_and, ins_fill, del_fill}
 use Rattle.laws.specs.Sizes.{key_limit, root_place}
 
 pub up_root : (ks : List ℕ) (u : ℕ) → u ≡ 0 → root_place ≡ up_num ks u

@@ -1,12 +1,11 @@
 -- Serves SCOPE.md, 'Store': what the loops over a term's items do to the tables.
-use Rattle.std.specs.Prelude.{ℕ, zero, suc, ◌+◌, ◌-◌, ◌*◌, ◌/◌, ◌%◌, ◌≤◌, ◌<◌, ◌≡◌, refl, List, [], ◌∷◌, ◌++◌, length, get_or, set}
-use Rattle.std.proofs.Common.{sym, ap, ◌∙◌}
+use Rattle.std.specs.Prelude.{ℕ, zero, suc, ◌%◌, ◌≤◌, ◌≡◌, List, [], ◌∷◌, length, get_or, set}
 use Rattle.chains.specs.Chains.{find}
 use Rattle.keysets.specs.KeySets.{Sets, four, mark, unmark, emptyb}
 use Rattle.paths.specs.Rep.{lab}
 use Rattle.paths.specs.TreeWalk.{up_num}
-use Rattle.paths.specs.Insert.{St, key_for, entered, ins_run}
-use Rattle.paths.specs.Delete.{left, del_run}
+use Rattle.paths.specs.Insert.{St, key_for, entered}
+use Rattle.paths.specs.Delete.{left}
 use Rattle.laws.specs.Sizes.{key_limit, link_length, set_length}
 
 abbrev pub tables : List ℕ → List ℕ → List ℕ → List ℕ → List ℕ → List ℕ → St Sets

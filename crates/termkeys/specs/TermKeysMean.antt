@@ -1,13 +1,12 @@
 -- Serves SCOPE.md, 'Store': the loops are the walks of the index: what they make of tables that stand for a store.
-use Rattle.std.specs.Prelude.{ℕ, zero, suc, ◌+◌, ◌-◌, ◌*◌, ◌/◌, ◌%◌, ◌≤◌, ◌<◌, ◌≡◌, refl, List, [], ◌∷◌, ◌++◌, length, get_or, set, take, drop}
-use Rattle.std.proofs.Common.{sym, ap, ◌∙◌, subst, append_assoc, append-nil, arith, mod-eq_of_lt, length-set, length-append, length-take, get_or-take, take-suc-set, take-suc}
+use Rattle.std.specs.Prelude.{ℕ, zero, suc, ◌+◌, ◌/◌, ◌%◌, ◌≤◌, ◌<◌, ◌≡◌, refl, List, [], ◌∷◌, ◌++◌, length, get_or, set, take}
+use Rattle.std.proofs.Common.{sym, ◌∙◌, subst, append_assoc, append-nil, arith, mod-eq_of_lt, length-set, length-take, get_or-take, take-suc-set, take-suc}
 use Rattle.std.proofs.Math.Option.{Option, some, none}
 use Rattle.chains.specs.Chains.{find}
-use Rattle.laws.specs.Members.{In}
-use Rattle.keys.specs.Keys.{Tm, Place, root, Key, key, HasKey}
+use Rattle.keys.specs.Keys.{Tm, Key, key, HasKey}
 use Rattle.keysets.specs.KeySets.{Sets, Ok, mem, mark, unmark, emptyb, mark_ok, unmark_ok, mark_law, unmark_law}
 use Rattle.keysets.specs.KeySets.{empty_yes, empty_no}
-use Rattle.paths.specs.Rep.{lab, Den}
+use Rattle.paths.specs.Rep.{lab}
 use Rattle.paths.specs.Free.{frees}
 use Rattle.paths.specs.TreeWalk.{up_num, ups_t, ends_t, key_list}
 use Rattle.paths.specs.Insert.{St, GoodTables, Back, back_one, key_for, entered, ins_run, DenK, Dens}
@@ -15,7 +14,7 @@ use Rattle.paths.specs.Delete.{left, del_run}
 use Rattle.paths.specs.Locate.{num_list, missing, located, all_there}
 use Rattle.paths.specs.StoredTrees.{Stored, put_tree, Storable, back, back_snoc, insert_good, delete_good, fine_back}
 use Rattle.paths.specs.StoredTrees.{fine_in, KeyIn}
-use Rattle.termkeys.specs.Fill.{fill, ins_fill, del_fill, Both, tables_and}
+use Rattle.termkeys.specs.Fill.{fill, ins_fill, del_fill}
 use Rattle.laws.specs.Sizes.{key_limit, slot_count}
 
 -- an item's place is read off the numbers before it

@@ -1,4 +1,6 @@
 // A term's keys in the tables: found, added with a slot, and cleared of it, one item after another.
+#![tactic(auto)]
+
 ghost use Rattle.std.specs.Prelude.{◌≡◌, ◌+◌, ◌-◌, ◌*◌, ◌/◌, ◌%◌, ◌≤◌, ◌<◌, length, get_or, set, ltb};
 ghost use Rattle.keysets.specs.KeySets.{Sets, mark as mark_of, unmark as unmark_of, emptyb, SetTablesLong};
 ghost use Rattle.laws.specs.Choice.{pick};

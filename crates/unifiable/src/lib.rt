@@ -1,5 +1,7 @@
 // The two terms from their bytes into one pool, the variables of the question apart from those of the stored term, and
 // whether they are unifiable.
+#![tactic(auto)]
+
 ghost use Rattle.std.specs.Prelude.{◌≡◌, length};
 ghost use Rattle.theory.specs.Relations.{Decided, Unifiable};
 ghost use Rattle.unifiable.specs.Pool.{Asked, Loaded, PairAnswer};
