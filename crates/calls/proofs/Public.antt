@@ -2,8 +2,8 @@
 use Prim.Native.Nat.{ℕ}
 use mathlib.Core.Path.{◌≡◌, sym, ap, ◌∙◌}
 use mathlib.Core.List.{List}
-use mathlib.Core.Bool.{Bool, true, false, not}
-use borrow.Author.Tests.{not-true, not-false, ne_eqb, eq-eqb}
+use mathlib.Core.Bool.{Bool, true, false}
+use borrow.Author.Tests.{ne_eqb, eq-eqb}
 use lib.Dec.{eqb}
 use lib.ListN.{length}
 use lib.Seq.{sets}
@@ -21,16 +21,16 @@ use Rattle.calls.specs.Outcome.{outcome, told, result, guarded, refused_told, do
 
 -- what the test of the lengths tells; r is what it answered
 module _ (T : Tables) (r : Bool) (e : r ≡ long_enough (length T.bytes) (length T.used) (length T.label) (length T.link) (length T.s0) (length T.s1) (length T.s2) (length T.s3)) where
-  pub ample_not : not r ≡ true → ample T ≡ false
+  pub ample_not : r ≡ false → ample T ≡ false
   unfolding ample
-  ample_not f = sym e ∙ not-true r f
+  ample_not f = sym e ∙ f
 
-  pub ample_is : not r ≡ false → ample T ≡ true
+  pub ample_is : r ≡ true → ample T ≡ true
   unfolding ample
-  ample_is f = sym e ∙ not-false r f
+  ample_is f = sym e ∙ f
 
-pub lengths : (b u l k c d e f : ℕ) (r : Bool) → r ≡ long_enough b u l k c d e f → not r ≡ false → Long b u l k c d e f
-lengths b u l k c d e f r p q = long b u l k c d e f (sym p ∙ not-false r q)
+pub lengths : (b u l k c d e f : ℕ) (r : Bool) → r ≡ long_enough b u l k c d e f → r ≡ true → Long b u l k c d e f
+lengths b u l k c d e f r p q = long b u l k c d e f (sym p ∙ q)
 
 -- THE WAYS OUT of a call that looks at the tables' lengths first
 module _ (T S : Tables) (out : List ℕ) (x : Answer) where

@@ -48,6 +48,7 @@ module _ (sig pool tab : List ℕ) where
     at_end x b (suc p) e h = absurd (h x (inl refl) (term sig pool p) (rw e at (t x b)))
 
     is : (y : ℕ) (l : List Item) → Occurs y l → (z : ℕ) → Occurs z (vars y) → Occurs z l
+    is y l i z (inr x') = elim x' [ ]
     is y l i z (inl e) = rw e i
 
     within : (d y : ℕ) (l : List Item) → Occurs y l → FollowingEnds B d l → FollowingEnds B d (vars y)

@@ -1,4 +1,6 @@
 // The record of two terms (SCOPE.md, 'The solver's record'): the variables' values under `unify`'s bindings, in bytes.
+#![tactic(auto)]
+
 mod counting;
 mod writing;
 
