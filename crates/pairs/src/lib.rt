@@ -1,4 +1,6 @@
 // One stored term and one question, without tables: are they unifiable.
+#![tactic(auto)]
+
 ghost use Rattle.std.specs.Prelude.{◌≤◌, ◌≡◌};
 ghost use Rattle.refusals.specs.Refusals.{checked_number};
 ghost use Rattle.pairs.specs.Pairs.{first_of, pair_refusal, Answers};
