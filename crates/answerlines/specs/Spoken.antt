@@ -1,6 +1,6 @@
 -- SCOPE.md, 'The log program': the line of a reply by its order, as the code writes it; turns/proofs/Turning ties it
 -- to the words of turns/specs/Turns.
-use Rattle.std.specs.Prelude.{ℕ, ◌*◌, ◌/◌, min, Bool, true, false, List, [], ◌∷◌, length, take}
+use Rattle.std.specs.Prelude.{ℕ, ◌*◌, ◌/◌, min, Bool, true, false, List, [], length, take}
 use Rattle.refusals.specs.Refusals.{number_of}
 use Rattle.calls.specs.declared.Reply.{Reply}
 use Rattle.calls.specs.declared.Reply.TheVariants.{Done, Refused}

@@ -1,4 +1,6 @@
 // The line of a reply (SCOPE.md, 'The log program').
+#![tactic(auto)]
+
 ghost use Rattle.std.specs.Prelude.{◌≡◌, Bool, ◌*◌, ◌/◌, ◌≤◌, min, length, take};
 ghost use Rattle.lines.specs.Lines.{Put, found_line, solved_line};
 ghost use Rattle.answerlines.specs.Spoken.{spoken_word, spoken_done, spoken, ending, stopping};

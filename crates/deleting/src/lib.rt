@@ -1,4 +1,6 @@
 // Delete: a slot of the lent tables is free again (SCOPE.md, 'Store').
+#![tactic(auto)]
+
 ghost use Rattle.std.specs.Prelude.{◌≡◌, []};
 ghost use Rattle.layout.specs.Tables.{held};
 ghost use Rattle.calls.specs.Outcome.{outcome, told};

@@ -1,4 +1,6 @@
 // Insert: a term in the smallest free slot of the lent tables (SCOPE.md, 'Store').
+#![tactic(auto)]
+
 ghost use Rattle.std.specs.Prelude.{◌≡◌, []};
 ghost use Rattle.layout.specs.Tables.{held};
 ghost use Rattle.calls.specs.Outcome.{outcome, told};

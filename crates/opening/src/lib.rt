@@ -1,4 +1,6 @@
 // Opening: the lent tables get a signature and nothing else (SCOPE.md, 'Store').
+#![tactic(auto)]
+
 ghost use Rattle.std.specs.Prelude.{◌≡◌, []};
 ghost use Rattle.layout.specs.Tables.{held};
 ghost use Rattle.calls.specs.Outcome.{outcome, told};

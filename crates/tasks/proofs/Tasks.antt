@@ -3,24 +3,24 @@
 use Prim.Native.Nat.{ℕ, ◌+◌, ◌-◌, ◌*◌, ◌≤◌, ◌<◌}
 use mathlib.Core.Path.{◌≡◌, refl, sym, ap, ◌∙◌}
 use mathlib.Core.Bool.{Bool, true, false}
-use mathlib.Core.Option.{Option, some, none}
+use mathlib.Core.Option.{Option, none}
 use mathlib.Core.List.{List, [], ◌∷◌}
 use native.Mathlib.Omega.{arith}
-use borrow.Author.Tests.{eq-eqb, ne_eqb, lt-ltb, le-ltb}
-use lib.Dec.{ltb, eqb}
-use lib.ListN.{length, get_or, take, drop, length-drop}
+use borrow.Author.Tests.{ne_eqb, lt-ltb, le-ltb}
+use lib.Dec.{eqb}
+use lib.ListN.{length, get_or, drop, length-drop}
 use lib.Seq.{length-take-le}
 use Rattle.laws.specs.Choice.{pick}
 use Rattle.laws.proofs.Lists.{part_rest}
 use Rattle.laws.specs.Sizes.{input_limit}
 use Rattle.logfields.specs.declared.field.Field.{Field}
-use Rattle.logfields.specs.declared.field.Field.TheVariants.{End, Cut, Whole}
+use Rattle.logfields.specs.declared.field.Field.TheVariants.{Whole}
 use Rattle.logfields.specs.declared.reader.Taken.{Taken}
 use Rattle.logfields.specs.Fields.{field_at}
-use Rattle.logfields.specs.Reading.{place_after, taken_at}
-use Rattle.logfields.proofs.Fields.{TakenWhole, taken_whole, past_within}
+use Rattle.logfields.specs.Reading.{taken_at}
+use Rattle.logfields.proofs.Fields.{taken_whole, past_within}
 use Rattle.calls.specs.declared.Order.{Order}
-use Rattle.calls.specs.declared.Order.TheVariants.{Open, Insert, Delete, WithKey, Retrieve, Solve, Nothing}
+use Rattle.calls.specs.declared.Order.TheVariants.{Open, Insert, Delete, Retrieve, Solve, Nothing}
 use Rattle.tasks.specs.Operations.{Operation, first_operation, later_operation, delete_operation, retrieve_operation, solve_operation, payload, operation_in}
 use Rattle.tasks.specs.Ordered.{fixed_part, InLog, operation_of, Ordered, operation_at, place_past}
 

@@ -1,5 +1,5 @@
 -- SCOPE.md, 'The log program': what a field asks for, by its tag and its payload.
-use Rattle.std.specs.Prelude.{ℕ, ◌+◌, ◌*◌, Bool, true, false, List, [], ◌∷◌, eqb, take, drop}
+use Rattle.std.specs.Prelude.{ℕ, ◌+◌, ◌*◌, Bool, List, [], ◌∷◌, eqb, take, drop}
 use Rattle.std.proofs.Math.Option.{Option, some, none}
 use Rattle.laws.specs.Choice.{pick}
 use Rattle.logfields.specs.declared.field.Field.{Field}

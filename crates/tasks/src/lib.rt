@@ -1,4 +1,6 @@
 // What the field at a place of the log orders (SCOPE.md, 'The log program').
+#![tactic(auto)]
+
 ghost use Rattle.std.specs.Prelude.{◌≡◌, Bool, ℕ, ◌≤◌, ◌<◌, ◌-◌, length, drop, eqb};
 ghost use Rattle.std.proofs.Math.Option.{none};
 ghost use Rattle.laws.specs.Choice.{pick};

@@ -1,6 +1,5 @@
 use native.Mathlib.Omega.{arith}
-use borrow.Author.Tests.{not-true, not-false}
-use mathlib.Core.Path.{refl, sym, ◌∙◌}
+use mathlib.Core.Path.{sym, ◌∙◌}
 use Rattle.layout.proofs.LayoutLaws.{in_use_small}
 use Rattle.calls.proofs.Public.{ample_not, ample_is, lengths}
 use Rattle.store.proofs.Parts.{none_are, sized}
@@ -19,11 +18,8 @@ returns-then-not-contains c = delete_none _ _ _ _ (ample_is _ _ c.lengths_suffic
 pub keys_in-n-requires : goal.keys_in-n-requires
 keys_in-n-requires c = let L = lengths _ _ _ _ _ _ _ _ _ c.lengths_suffice.ensures c.if-not-lengths_suffice.false in (L.bytes, L.links, L.labels, in_use_small _ _ (sym (used_is _ _ _ _ c.slots_used-set.ensures c.contains.ensures) ∙ c.if-not-contains.false), none_are)
 
-pub slice_bounds-delete_all-end : goal.slice_bounds-delete_all-end
-slice_bounds-delete_all-end c = sym c.keys_in-n.auto.1.1.1.1.0
-
 pub delete_all-requires : goal.delete_all-requires
-delete_all-requires c = let q = in_use_small _ _ (sym (used_is _ _ _ _ c.slots_used-set.ensures c.contains.ensures) ∙ c.if-not-contains.false) in (sized _ _ _ _ _ _ _ _ (lengths _ _ _ _ _ _ _ _ _ c.lengths_suffice.ensures c.if-not-lengths_suffice.false), omega (arith, q), omega (arith, c.keys_in-n.auto.1.1.1.1.0, c.keys_in-n.ensures.few))
+delete_all-requires c = let q = in_use_small _ _ (sym (used_is _ _ _ _ c.slots_used-set.ensures c.contains.ensures) ∙ c.if-not-contains.false) in (sized _ _ _ _ _ _ _ _ (lengths _ _ _ _ _ _ _ _ _ c.lengths_suffice.ensures c.if-not-lengths_suffice.false), omega (arith, q), omega (arith, c.keys_in-n.auto.keys, c.keys_in-n.ensures.few))
 
 pub put_used-requires : goal.put_used-requires
 put_used-requires c = (lengths _ _ _ _ _ _ _ _ _ c.lengths_suffice.ensures c.if-not-lengths_suffice.false).used

@@ -1,6 +1,5 @@
 use native.Mathlib.Omega.{arith}
-use borrow.Author.Tests.{not-true, not-false}
-use mathlib.Core.Path.{refl, ◌≡◌, sym, ◌∙◌}
+use mathlib.Core.Path.{◌≡◌, sym, ◌∙◌}
 use lib.Seq.{length-take-le}
 use lib.ListN.{length}
 use Rattle.layout.proofs.LayoutLaws.{signature_good}
@@ -8,7 +7,6 @@ use Rattle.terms.proofs.TermLaws.{checked_good}
 use Rattle.calls.proofs.Public.{ample_not, ample_is, lengths}
 use Rattle.store.proofs.Parts.{sized}
 use Rattle.inserting.proofs.InsertLaws.{free_slot_lem, insert_short, insert_bad, insert_full, insert_crowded, insert_done}
-use borrow.Author.Rules.{rules}
 use Rattle.inserting.proofs.insert.Goals as goal
 
 pub returns-then-not-lengths_suffice : goal.returns-then-not-lengths_suffice
@@ -33,7 +31,7 @@ pub fits-requires : goal.fits-requires
 fits-requires c = let L = lengths _ _ _ _ _ _ _ _ _ c.lengths_suffice.ensures c.if-not-lengths_suffice.false in (L.links, L.labels, c.outline_of-o.ensures.few, c.outline_of-o.ensures.room.0, c.outline_of-o.ensures.room.1)
 
 pub returns-then-not-fits : goal.returns-then-not-fits
-returns-then-not-fits c = insert_crowded _ _ _ _ (ample_is _ _ c.lengths_suffice.ensures c.if-not-lengths_suffice.false) c.signature-sig.ensures c.check-checked.ensures c.in_default.is _ (free_slot_lem _ _ _ _ c.slots_used-set.ensures c.complement.ensures c.least-free.ensures) _ _ _ _ (omega (arith, c.if-free-ge-SLOTS.false)) c.outline_of-o.ensures c.fits2.ensures (c.if-not-fits.true)
+returns-then-not-fits c = insert_crowded _ _ _ _ (ample_is _ _ c.lengths_suffice.ensures c.if-not-lengths_suffice.false) c.signature-sig.ensures c.check-checked.ensures c.in_default.is _ (free_slot_lem _ _ _ _ c.slots_used-set.ensures c.complement.ensures c.least-free.ensures) _ _ _ _ (omega (arith, c.if-free-ge-SLOTS.false)) c.outline_of-o.ensures c.fits.ensures (c.if-not-fits.true)
 
 pub slice_bounds-ups-end : goal.slice_bounds-ups-end
 slice_bounds-ups-end c = let h : length c.outline_of-o.result.ups ≡ 32 = c.outline_of-o.ensures.room.0 in omega (arith, h, c.outline_of-o.ensures.few)
@@ -57,4 +55,4 @@ pub put_used-requires : goal.put_used-requires
 put_used-requires c = (lengths _ _ _ _ _ _ _ _ _ c.lengths_suffice.ensures c.if-not-lengths_suffice.false).used
 
 pub returns : goal.returns
-returns c = insert_done _ _ _ _ (ample_is _ _ c.lengths_suffice.ensures c.if-not-lengths_suffice.false) c.signature-sig.ensures c.check-checked.ensures c.in_default.is _ (free_slot_lem _ _ _ _ c.slots_used-set.ensures c.complement.ensures c.least-free.ensures) _ _ _ _ (omega (arith, c.if-free-ge-SLOTS.false)) c.outline_of-o.ensures c.fits2.ensures _ _ _ _ _ _ _ _ _ _ _ (c.if-not-fits.false) c.insert_all.ensures c.put_term.ensures c.slots_used-set.ensures c.insert.ensures c.put_used.ensures
+returns c = insert_done _ _ _ _ (ample_is _ _ c.lengths_suffice.ensures c.if-not-lengths_suffice.false) c.signature-sig.ensures c.check-checked.ensures c.in_default.is _ (free_slot_lem _ _ _ _ c.slots_used-set.ensures c.complement.ensures c.least-free.ensures) _ _ _ _ (omega (arith, c.if-free-ge-SLOTS.false)) c.outline_of-o.ensures c.fits.ensures _ _ _ _ _ _ _ _ _ _ _ (c.if-not-fits.false) c.insert_all.ensures c.put_term.ensures c.slots_used-set.ensures c.insert.ensures c.put_used.ensures

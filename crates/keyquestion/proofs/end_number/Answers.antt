@@ -1,5 +1,4 @@
 use mathlib.Core.Path.{◌∙◌}
-use borrow.Author.Rules.{rules}
 use Rattle.keyquestion.proofs.NumberLaws.{end_small, end_star}
 use Rattle.keyquestion.proofs.end_number.Goals as goal
 

@@ -1,13 +1,9 @@
-use Rattle.laws.specs.Sizes.{place_end}
-use Prim.Native.Nat.{◌-◌, ◌<◌}
-use mathlib.Core.Path.{◌≡◌, ap, ◌∙◌}
+use mathlib.Core.Path.{ap, ◌∙◌}
 use native.Mathlib.Omega.{arith}
-use borrow.Author.Rules.{rules}
-use lib.ListN.{length, length-drop}
+use lib.ListN.{length-drop}
 use Rattle.laws.proofs.Lists.{tail_part}
 use Rattle.paths.specs.Locate.{find_le}
 use Rattle.chains.specs.Chains.{find}
-use Rattle.store.specs.Tables.{number_from, key_number}
 use Rattle.keyquestion.proofs.NumberLaws.{number_start, number_turn, number_none, number_end}
 use Rattle.keyquestion.proofs.key_number.Goals as goal
 

@@ -1,5 +1,3 @@
-use borrow.Author.Tests.{not-true, not-false}
-use borrow.Author.Rules.{rules}
 use native.Mathlib.Omega.{arith}
 use Rattle.calls.proofs.Public.{ample_not, ample_is, lengths}
 use Rattle.keyquestion.proofs.QuestionLaws.{ask_short, ask_bad, ask_room, ask_done}

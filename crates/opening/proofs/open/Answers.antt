@@ -2,7 +2,6 @@ use native.Mathlib.Omega.{arith}
 use Rattle.terms.proofs.TermLaws.{checked_signed}
 use Rattle.calls.proofs.Public.{ample_not, ample_is, lengths}
 use Rattle.opening.proofs.OpenLaws.{open_short, open_bad, open_done}
-use borrow.Author.Rules.{rules}
 use Rattle.opening.proofs.open.Goals as goal
 
 pub returns-then-not-lengths_suffice : goal.returns-then-not-lengths_suffice
