@@ -23,6 +23,11 @@ use Rattle.candidates.specs.Has.{none_has}
 use Rattle.confirming.specs.Confirms.{confirms_term, those}
 use Rattle.confirming.specs.Those.{those_members}
 use Rattle.laws.specs.Sizes.{slot_count}
+use Rattle.layout.specs.Layout.{term_of}
+
+-- the test that each candidate stands
+abbrev pub test : List ℕ → ℕ → List ℕ → List ℕ → ℕ → Bool
+test bytes relation sig q s = confirms_term sig relation (term_of bytes s) q
 
 -- the ways out of `stands`: what is no term, and what is one where b decides the relation
 pub confirms_none : (r : ℕ) (sig t q : List ℕ) (b : Bool) → b ≡ eqb (refusal sig t) 0 → b ≡ false → false ≡ confirms_term sig r t q

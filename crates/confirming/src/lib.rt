@@ -1,5 +1,7 @@
 // Confirmation: of the candidates of a retrieval those whose term stands in the relation (SCOPE.md, 'The relations
 // themselves').
+#![tactic(auto)]
+
 ghost use Rattle.std.specs.Prelude.{◌≤◌, ◌≡◌, length};
 ghost use Rattle.terms.specs.Terms.{Signed, refusal};
 ghost use Rattle.slots.specs.Slots.{members};
