@@ -1,26 +1,23 @@
 -- Laws of a case's line: each way out of src/lib.rt is the line of Said.antt.
-use Prim.Native.Nat.{ℕ, zero, suc, ◌+◌, ◌*◌, ◌/◌, ◌%◌, ◌≤◌, ◌<◌, min}
-use mathlib.Core.Path.{◌≡◌, refl, sym, ap, ◌∙◌}
-use mathlib.Core.List.{List, [], ◌∷◌, ◌++◌}
+use Prim.Native.Nat.{ℕ, zero, suc, ◌+◌, ◌*◌, ◌/◌, ◌%◌, ◌≤◌, ◌<◌}
+use mathlib.Core.Path.{◌≡◌, refl, sym}
+use mathlib.Core.List.{List, [], ◌∷◌}
 use native.Mathlib.Omega.{arith}
 use native.Mathlib.Numerals.{add-one}
 use borrow.Author.Tests.{ne_eqb}
 use lib.ListN.{length, take, drop, get_or}
 use lib.Seq.{drop-cons}
-use lib.Dec.{eqb}
-use Rattle.laws.specs.Choice.{pick}
-use Rattle.laws.specs.Sizes.{answer_room}
 use Rattle.refusals.specs.declared.Refusal.{Refusal}
 use Rattle.refusals.specs.Refusals.{number_of}
 use Rattle.terms.specs.Terms.{arg_refusal, arg_bytes}
 use Rattle.calls.specs.declared.Reply.{Reply}
 use Rattle.calls.specs.declared.Reply.TheVariants.{Done, Refused}
 use Rattle.calls.specs.declared.Order.{Order}
-use Rattle.calls.specs.declared.Order.TheVariants.{Open, Insert, Delete, WithKey, Retrieve, Solve, Nothing}
+use Rattle.calls.specs.declared.Order.TheVariants.{Nothing}
 use Rattle.lines.specs.Lines.{Put, found_line, slot_line, solved_line, refused_line}
 use Rattle.lines.proofs.LineLaws.{put_none}
 use Rattle.casetext.specs.declared.Case.{Case}
-use Rattle.caselines.specs.Said.{order_of, sum_from, checksum_of, short_line, listed_line, edge_signature, argument_line, written_by, answer_line, done_line, refusal_line, said}
+use Rattle.caselines.specs.Said.{order_of, sum_from, checksum_of, short_line, edge_signature, argument_line, written_by, answer_line, done_line, refusal_line, said}
 
 -- the call of a word that is known, and of any other
 pub order_known : (w v n : ℕ) (o : Order) → w ≡ v → o ≡ order_of v n → o ≡ order_of w n

@@ -1,4 +1,6 @@
 // The line of what a case got: its first three words, then the answer as the log program writes it.
+#![tactic(auto)]
+
 ghost use Rattle.std.specs.Prelude.{◌≡◌, ◌≤◌, ◌<◌, min};
 ghost use Rattle.laws.specs.Sizes.{answer_room};
 ghost use Rattle.lines.specs.Lines.{Put};

@@ -23,7 +23,7 @@ use orders::call;
 use reading::read_full;
 
 // The line, how many calls of its case are done, the length of the answer buffer, and the table that is lent too short.
-#[derive(Drop)]
+#[derive(Clone, Copy)]
 struct Place {
     at: usize,
     round: usize,

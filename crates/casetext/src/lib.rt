@@ -10,7 +10,7 @@ use laws::{low, wide};
 
 // The first letter of the second word, the third word as a number, where it ends, how many bytes the fourth word has,
 // how many calls are left after this one, and the next line.
-#[derive(Drop)]
+#[derive(Clone, Copy)]
 pub struct Case {
     pub word: u8,
     pub number: usize,

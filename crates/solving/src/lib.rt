@@ -1,4 +1,6 @@
 // The solver over the lent tables (SCOPE.md, 'The solver's record').
+#![tactic(auto)]
+
 ghost use Rattle.std.specs.Prelude.{◌≡◌, length};
 ghost use Rattle.layout.specs.Tables.{held};
 ghost use Rattle.calls.specs.Outcome.{outcome, told};
