@@ -2,7 +2,7 @@
 -- unifier that the table stands for: its bytes, their number, the number of its fields.
 use Rattle.std.specs.Prelude.{◌≡◌, ◌≢◌, List, [], ◌∷◌, ◌++◌, get_or}
 use Rattle.std.proofs.Math.Path.{refl, ap}
-use Rattle.std.proofs.Common.{◌∙◌, inl}
+use Rattle.std.proofs.Common.{◌∙◌, inl, inr}
 use Prim.Native.Nat.{ℕ, zero, suc, ◌+◌, ◌-◌, ◌*◌, ◌/◌, ◌%◌, ◌≤◌, ◌<◌}
 use Rattle.std.proofs.Math.Decide.{ℕ_discrete}
 use native.Mathlib.Omega.{arith}
@@ -24,7 +24,7 @@ unbound_in [] g y z i = tt
 unbound_in ((x := u) ∷ B) g y z i = let r = in_app (one x (app (full B) u)) z (full B y) i in go r.0 r.1 r.2 (ℕ_discrete x r.0) (unbound_in B g.2)
   where
     is : (w : ℕ) → Occurs z (vars w) → z ≡ w
-    is w (mathlib.Core.Logic.inr x5) = elim x5 [ ]
+    is w (inr x) = elim x [ ]
     is w (inl e) = e
 
     go : (w : ℕ) → Occurs w (full B y) → Occurs z (one x (app (full B) u) w) → Dec (x ≡ w) → ((y z : ℕ) → Occurs z (full B y) → Unbound z B) → (x ≢ z) × Unbound z B
