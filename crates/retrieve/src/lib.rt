@@ -1,4 +1,6 @@
 // The five retrievals over the lent tables (SCOPE.md, 'The relations themselves').
+#![tactic(auto)]
+
 ghost use Rattle.std.specs.Prelude.{◌≡◌, length};
 ghost use Rattle.layout.specs.Tables.{held};
 ghost use Rattle.calls.specs.Outcome.{outcome, told};
