@@ -22,7 +22,9 @@ returns-then-relation-eq1 c = let s = c in let a = s.args in confirms_variant a.
 pub instance-requires : goal.instance-requires
 instance-requires c = let p = c.requires in
     let t = is_good _ _ _ c.is_term.ensures (c.if-not-is_term.false) in
-    (fine_good _ _ p.0 (good _ _ p.1), fine_good _ _ p.0 t)
+    let f = fine_good _ _ p.0 (good _ _ p.1) in
+    let g = fine_good _ _ p.0 t in
+    assumption (f, g)
 
 pub returns-then-relation-eq2 : goal.returns-then-relation-eq2
 returns-then-relation-eq2 c = let s = c in let a = s.args in confirms_instance a.relation a.sig.now a.t.now a.q.now c.instance.result s.requires.0 s.requires.1 c.is_term.result c.is_term.ensures (c.if-not-is_term.false) (omega (arith, c.if-relation-eq2.true)) c.instance.ensures
@@ -30,7 +32,9 @@ returns-then-relation-eq2 c = let s = c in let a = s.args in confirms_instance a
 pub instance-requires-then-relation-eq3 : goal.instance-requires-then-relation-eq3
 instance-requires-then-relation-eq3 c = let p = c.requires in
     let t = is_good _ _ _ c.is_term.ensures (c.if-not-is_term.false) in
-    (fine_good _ _ p.0 t, fine_good _ _ p.0 (good _ _ p.1))
+    let f = fine_good _ _ p.0 (good _ _ p.1) in
+    let g = fine_good _ _ p.0 t in
+    assumption (f, g)
 
 pub returns-then-relation-eq3 : goal.returns-then-relation-eq3
 returns-then-relation-eq3 c = let s = c in let a = s.args in confirms_general a.relation a.sig.now a.t.now a.q.now c.instance-then-relation-eq3.result s.requires.0 s.requires.1 c.is_term.result c.is_term.ensures (c.if-not-is_term.false) (omega (arith, c.if-relation-eq3.true)) c.instance-then-relation-eq3.ensures
