@@ -2,11 +2,9 @@
 use Prim.Native.Nat.{ℕ}
 use mathlib.Core.Path.{◌≡◌, refl, sym, ap, ◌∙◌}
 use mathlib.Core.Bool.{Bool, true, false}
-use mathlib.Core.List.{List, [], ◌∷◌}
+use mathlib.Core.List.{List, []}
 use lib.Dec.{ltb, eqb}
 use lib.Seq.{sets}
-use types.Run.{OneOf, miss}
-use denote.Enum.Declared.{tag_of}
 use Rattle.laws.specs.Choice.{pick}
 use Rattle.refusals.specs.declared.Refusal.TheVariants as Refusal
 use Rattle.terms.specs.Terms.{sig_refusal, refusal}
@@ -21,39 +19,32 @@ use Rattle.store.specs.Tables.{ups_of, ends_of, room_for, free_slot}
 use Rattle.calls.specs.declared.Order.{Order}
 use Rattle.calls.specs.declared.Order.TheVariants.{Open, Insert, Delete, WithKey, Retrieve, Solve, Nothing}
 use Rattle.orders.specs.Orders.{asked, ordered}
-use Rattle.calls.specs.contracts.Order.{the_type}
 use Rattle.laws.specs.Sizes.{slot_count}
-
--- the orders that change a table, and none at all
-abbrev pub Unasked : Order → Type 0
-Unasked o = OneOf (0 ∷ 1 ∷ 2 ∷ 6 ∷ []) (tag_of the_type o)
-
--- the orders that change no table, and none at all
-abbrev pub Unchanging : Order → Type 0
-Unchanging o = OneOf (3 ∷ 4 ∷ 5 ∷ 6 ∷ []) (tag_of the_type o)
 
 -- ask
 pub asked_told : (o o' : Order) (T : Tables) (t : List ℕ) (room : ℕ) (out : List ℕ) (x : Outcome) → o ≡ o' → x ≡ told out (asked o' T t room) → x ≡ told out (asked o T t room)
 asked_told o o' T t room out x e f = f ∙ ap (λ z. told out (asked z T t room)) (sym e)
 
-pub log_told : (o : Order) (T : Tables) (t : List ℕ) (room : ℕ) (out : List ℕ) → Unasked o → outcome (Refused Refusal.Log) T out ≡ told out (asked o T t room)
-log_told Open T t room out h = refused_told Refusal.Log T T out (refuse Refusal.Log) refl
-log_told Insert T t room out h = refused_told Refusal.Log T T out (refuse Refusal.Log) refl
-log_told (Delete s) T t room out h = refused_told Refusal.Log T T out (refuse Refusal.Log) refl
-log_told Nothing T t room out h = refused_told Refusal.Log T T out (refuse Refusal.Log) refl
-log_told WithKey T t room out h = absurd (miss (0 ∷ 1 ∷ 2 ∷ 6 ∷ []) 3 tt h)
-log_told (Retrieve r) T t room out h = absurd (miss (0 ∷ 1 ∷ 2 ∷ 6 ∷ []) 4 tt h)
-log_told (Solve s) T t room out h = absurd (miss (0 ∷ 1 ∷ 2 ∷ 6 ∷ []) 5 tt h)
+pub log_told : (o : Order) (T : Tables) (t : List ℕ) (room : ℕ) (out : List ℕ) → (o ≡ WithKey → ⊥) → ((r : ℕ) → o ≡ Retrieve r → ⊥) → ((s : ℕ) → o ≡ Solve s → ⊥)
+    → outcome (Refused Refusal.Log) T out ≡ told out (asked o T t room)
+log_told Open T t room out k r s = refused_told Refusal.Log T T out (refuse Refusal.Log) refl
+log_told Insert T t room out k r s = refused_told Refusal.Log T T out (refuse Refusal.Log) refl
+log_told (Delete n) T t room out k r s = refused_told Refusal.Log T T out (refuse Refusal.Log) refl
+log_told Nothing T t room out k r s = refused_told Refusal.Log T T out (refuse Refusal.Log) refl
+log_told WithKey T t room out k r s = absurd (k refl)
+log_told (Retrieve n) T t room out k r s = absurd (r n refl)
+log_told (Solve n) T t room out k r s = absurd (s n refl)
 
 -- call, by ask
-pub unchanging_told : (o : Order) (T : Tables) (t : List ℕ) (room : ℕ) (out : List ℕ) (x : Outcome) → Unchanging o → x ≡ told out (asked o T t room) → x ≡ told out (ordered o T t room)
-unchanging_told WithKey T t room out x h e = e
-unchanging_told (Retrieve r) T t room out x h e = e
-unchanging_told (Solve s) T t room out x h e = e
-unchanging_told Nothing T t room out x h e = e
-unchanging_told Open T t room out x h e = absurd (miss (3 ∷ 4 ∷ 5 ∷ 6 ∷ []) 0 tt h)
-unchanging_told Insert T t room out x h e = absurd (miss (3 ∷ 4 ∷ 5 ∷ 6 ∷ []) 1 tt h)
-unchanging_told (Delete s) T t room out x h e = absurd (miss (3 ∷ 4 ∷ 5 ∷ 6 ∷ []) 2 tt h)
+pub unchanging_told : (o : Order) (T : Tables) (t : List ℕ) (room : ℕ) (out : List ℕ) (x : Outcome) → (o ≡ Open → ⊥) → (o ≡ Insert → ⊥) → ((s : ℕ) → o ≡ Delete s → ⊥)
+    → x ≡ told out (asked o T t room) → x ≡ told out (ordered o T t room)
+unchanging_told WithKey T t room out x p i d e = e
+unchanging_told (Retrieve r) T t room out x p i d e = e
+unchanging_told (Solve s) T t room out x p i d e = e
+unchanging_told Nothing T t room out x p i d e = e
+unchanging_told Open T t room out x p i d e = absurd (p refl)
+unchanging_told Insert T t room out x p i d e = absurd (i refl)
+unchanging_told (Delete s) T t room out x p i d e = absurd (d s refl)
 
 -- a call that writes nothing says so of every buffer
 quiet : (r : Reply) (S : Tables) (out : List ℕ) (R : Result) → written R.answer ≡ [] → outcome r S [] ≡ told [] R → outcome r S out ≡ told out R

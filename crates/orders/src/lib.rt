@@ -1,4 +1,6 @@
 // One call over the lent tables, by its order: what the programs that read their calls as data share.
+#![tactic(auto)]
+
 ghost use Rattle.std.specs.Prelude.{◌≡◌, length};
 ghost use Rattle.layout.specs.Tables.{held};
 ghost use Rattle.calls.specs.Outcome.{outcome, told};
