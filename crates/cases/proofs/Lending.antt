@@ -2,23 +2,22 @@
 use Prim.Native.Nat.{ℕ, ◌+◌, ◌-◌, ◌≤◌, ◌<◌, min}
 use mathlib.Core.Path.{◌≡◌, refl, sym, ap, ◌∙◌}
 use mathlib.Core.List.{List, ◌++◌}
-use native.Mathlib.Omega.{arith}
 use borrow.Author.Tests.{ne_eqb, eq-eqb, lt-ltb, le-ltb}
 use lib.ListN.{length, take, drop}
 use lib.Seq.{length-take-le}
-use lib.Dec.{eqb, ltb}
+use lib.Dec.{eqb}
 use Rattle.laws.specs.Choice.{pick}
 use Rattle.laws.specs.Sizes.{answer_room}
 use Rattle.layout.specs.Tables.{Tables, held}
 use Rattle.calls.specs.declared.Reply.{Reply}
 use Rattle.calls.specs.declared.Reply.TheVariants.{Done, Refused}
-use Rattle.calls.specs.Outcome.{Outcome, outcome, Result, told}
+use Rattle.calls.specs.Outcome.{Outcome, outcome, told}
 use Rattle.calls.specs.declared.Order.{Order}
 use Rattle.orders.specs.Orders.{ordered}
 use Rattle.casetext.specs.declared.Case.{Case}
 use Rattle.cases.specs.declared.Place.{Place}
 use Rattle.caselines.specs.Said.{order_of}
-use Rattle.cases.specs.Lent.{lent_length, outcome_back, case_outcome, room_after, case_after}
+use Rattle.cases.specs.Lent.{lent_length, case_outcome, room_after, case_after}
 
 pub cut_other : (short table n : ℕ) → (table ≡ short → ⊥) → n ≡ lent_length short table n
 cut_other short table n h = rw (ne_eqb table short h) refl

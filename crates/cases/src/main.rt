@@ -6,14 +6,13 @@
 // relation (retrieve, numbers), or the argument (argument). `grow` inserts as `insert` does, the second byte of the
 // term one more each time. `buffer` sets the length of the answer buffer, `table` makes one table, 0 to 7, shorter by
 // one element, 8 none.
+#![tactic(auto)]
+
 ghost use Rattle.std.specs.Prelude.{◌≡◌, ◌+◌, ◌*◌, ◌≤◌, ◌<◌, length};
 ghost use Rattle.laws.specs.Sizes.{answer_room};
 ghost use Rattle.layout.specs.Tables.{held};
 ghost use Rattle.calls.specs.Outcome.{outcome};
 ghost use Rattle.cases.specs.Lent.{lent_length, case_outcome, room_after, case_after};
-
-use std::io;
-use std::io::Write;
 
 use calls::Reply;
 use caselines::{order_of, say};
@@ -21,6 +20,8 @@ use casetext::{Case, case_at};
 use laws::{ANSWER, BYTES, LABEL, LINK, SETS, USED};
 use orders::call;
 use reading::read_full;
+use std::io;
+use std::io::Write;
 
 // The line, how many calls of its case are done, the length of the answer buffer, and the table that is lent too short.
 #[derive(Clone, Copy)]
@@ -195,7 +196,14 @@ fn main(rt: HostRuntime) -> io::Result<()> {
             case, place, &given, &mut bytes, &mut used, &mut label, &mut link, &mut s0, &mut s1,
             &mut s2, &mut s3, &mut out,
         );
-        finish(&mut rt.stdout(), case, reply, &input[at..shown], &given, &out)?;
+        finish(
+            &mut rt.stdout(),
+            case,
+            reply,
+            &input[at..shown],
+            &given,
+            &out,
+        )?;
         place = place_after(case, place);
     }
     Ok(())
