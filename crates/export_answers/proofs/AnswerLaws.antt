@@ -1,6 +1,6 @@
 -- What the exported functions tell: of a call over the tables, of one pair.
 use Prim.Native.Nat.{ℕ}
-use mathlib.Core.Path.{◌≡◌, refl, sym, ap, ◌∙◌}
+use mathlib.Core.Path.{◌≡◌, sym, ap, ◌∙◌}
 use mathlib.Core.List.{List}
 use lib.ListN.{length}
 use borrow.Author.Tests.{eq-eqb, ne_eqb}
@@ -13,7 +13,6 @@ use Rattle.export_answers.specs.Pair.{paired_number, paired_answer, Told}
 use Rattle.definitions.specs.Answers.{first_in, second_in}
 use Rattle.layout.specs.Tables.{Tables}
 use Rattle.calls.specs.declared.Reply.{Reply}
-use Rattle.calls.specs.declared.Reply.TheVariants as Reply
 use Rattle.calls.specs.Outcome.{Outcome, outcome, told}
 use Rattle.library.specs.Store.{Call, room_of}
 use Rattle.meaning.specs.Runs.{carried, Tells, TellsFirst, TellsBoth, told_number}

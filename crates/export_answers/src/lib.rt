@@ -1,4 +1,6 @@
 // The number of each answer, 0 or the refusal's; what was answered goes through `&mut`, only where the number is 0.
+#![tactic(auto)]
+
 ghost use Rattle.std.specs.Prelude.{◌≡◌};
 ghost use Rattle.export_answers.specs.Pair.{paired_number, paired_answer};
 ghost use Rattle.export_answers.specs.Replies.{reply_number, first_told, second_of};

@@ -1,4 +1,6 @@
 // What C and Rust call to store a term: it answers 0 or the number of the refusal (SCOPE.md, 'Numbers of refusal').
+#![tactic(auto)]
+
 ghost use Rattle.std.specs.Prelude.{[]};
 ghost use Rattle.layout.specs.Tables.{held};
 ghost use Rattle.library.specs.Store.{insert};

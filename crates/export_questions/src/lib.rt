@@ -1,5 +1,7 @@
 // What C and Rust ask of the tables. Each answers 0 or the number of the refusal (SCOPE.md, 'Numbers of refusal'), and
 // writes numbers only where it answers 0.
+#![tactic(auto)]
+
 ghost use Rattle.std.specs.Prelude.{length};
 ghost use Rattle.layout.specs.Tables.{held};
 ghost use Rattle.library.specs.Store.{with_key, retrieve, solve};

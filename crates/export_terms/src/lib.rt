@@ -1,5 +1,7 @@
 // What C and Rust call without tables. Each answers 0 or the number of the refusal (SCOPE.md, 'Numbers of refusal'),
 // and writes numbers only where it answers 0.
+#![tactic(auto)]
+
 ghost use Rattle.std.specs.Prelude.{◌≡◌};
 ghost use Rattle.terms.specs.Terms.{sig_refusal, refusal, arg_refusal};
 ghost use Rattle.theory.specs.Relations.{Unifiable};

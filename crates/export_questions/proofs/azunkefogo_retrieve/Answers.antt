@@ -1,0 +1,7 @@
+use mathlib.Core.Path.{refl}
+use Rattle.library.specs.Store.{retrieve}
+use Rattle.export_answers.proofs.AnswerLaws.{tells_both}
+use Rattle.export_questions.proofs.azunkefogo_retrieve.Goals as goal
+
+pub returns : goal.returns
+returns c = tells_both _ _ _ _ (retrieve _ _ _) c.retrieve.result _ c.retrieve.ensures c.tell_both.ensures.0 refl _ _ _ _ c.tell_both.ensures.1 c.tell_both.ensures.2
