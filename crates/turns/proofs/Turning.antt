@@ -1,7 +1,7 @@
 -- Laws of one turn: the line and the stop by order are those of Turns.
 use Prim.Native.Nat.{ℕ, ◌-◌}
 use mathlib.Core.Path.{◌≡◌, refl, ap, ◌∙◌}
-use mathlib.Core.Bool.{Bool, true, false}
+use mathlib.Core.Bool.{Bool, false}
 use mathlib.Core.Option.{none}
 use mathlib.Core.List.{List}
 use native.Mathlib.Omega.{arith}
@@ -14,7 +14,7 @@ use Rattle.refusals.specs.Numbers.{number_some}
 use Rattle.layout.specs.Tables.{Tables}
 use Rattle.calls.specs.declared.Reply.{Reply}
 use Rattle.calls.specs.declared.Reply.TheVariants.{Done, Refused}
-use Rattle.calls.specs.Outcome.{Outcome, outcome, Result, told}
+use Rattle.calls.specs.Outcome.{Outcome, outcome, told}
 use Rattle.calls.specs.declared.Order.{Order}
 use Rattle.calls.specs.declared.Order.TheVariants.{Open, Insert, Delete, WithKey, Retrieve, Solve, Nothing}
 use Rattle.orders.specs.Orders.{ordered}
@@ -22,7 +22,7 @@ use Rattle.lines.specs.Lines.{Put}
 use Rattle.tasks.specs.Operations.{payload}
 use Rattle.tasks.specs.Ordered.{InLog, operation_of, operation_at, place_past}
 use Rattle.answerlines.specs.Spoken.{spoken, ending, stopping}
-use Rattle.turns.specs.Turns.{result_of, line_of, stops_after, made_at, line_at, next_at, Turned}
+use Rattle.turns.specs.Turns.{result_of, line_of, stops_after, made_at, line_at, Turned}
 
 -- an order is the call that it is
 ordered_is : (room : ℕ) (order : Order) (T : Tables) (t : List ℕ) → InLog order → ordered order T t room ≡ result_of room T (operation_of order t)

@@ -6,11 +6,11 @@ use Rattle.std.proofs.Math.Option.{Option, some, none}
 use Rattle.laws.specs.Sizes.{input_limit, answer_room}
 use Rattle.terms.specs.Terms.{sig_refusal}
 use Rattle.definitions.specs.Answers.{Answer, refused, done, unless}
-use Rattle.library.specs.Store.{Store, open_with, answered}
+use Rattle.library.specs.Store.{Store, answered}
 use Rattle.logfields.specs.Reading.{fields_of, field_or}
 use Rattle.logfields.specs.declared.field.Field.{Field}
 use Rattle.logfields.specs.declared.field.Field.TheVariants.{End, Cut, Whole}
-use Rattle.tasks.specs.Operations.{Operation, to_open, to_insert, to_delete, to_retrieve, to_solve, first_operation, payload}
+use Rattle.tasks.specs.Operations.{Operation, to_open, first_operation, payload}
 use Rattle.tasks.specs.Operations.{operation_in}
 use Rattle.turns.specs.Printed.{library_call, Line, answer, log, store_after, line_then, later_lines, unless_refused}
 use Rattle.turns.specs.Printed.{unopened, first_lines, lines_of}

@@ -25,7 +25,6 @@ use Rattle.library.specs.Readable.{slots_are}
 use Rattle.lines.specs.Lines.{decimal, hex, slot_list, record_text, ok, no as not, feed, figure, plain_line, refused_line}
 use Rattle.lines.specs.Lines.{slot_line, found_line, solved_line}
 use Rattle.logfields.specs.declared.field.Field.{Field}
-use Rattle.logfields.specs.declared.field.Field.TheVariants.{End, Cut, Whole}
 use Rattle.logfields.specs.Reading.{fields_of}
 use Rattle.lines.proofs.LineLaws.{decimal_one, decimal_more}
 use Rattle.tasks.specs.Operations.{Operation, to_open, to_insert, to_delete, to_retrieve, to_solve, operation_in}

@@ -1,5 +1,5 @@
 -- SCOPE.md, 'The log program', over a whole input: the turns one after another print just what `printed` says.
-use Rattle.std.specs.Prelude.{ℕ, zero, suc, ◌+◌, ◌-◌, ◌*◌, ◌/◌, ◌≤◌, ◌<◌, min, ◌≡◌, refl, Bool, true, false, List, [], ◌∷◌, ◌++◌, ltb, leb, eqb, length, get_or, take, drop, replicate}
+use Rattle.std.specs.Prelude.{ℕ, zero, suc, ◌+◌, ◌-◌, ◌*◌, ◌/◌, ◌≤◌, ◌<◌, min, ◌≡◌, refl, Bool, true, false, List, [], ◌∷◌, ◌++◌, ltb, eqb, length, get_or, take, drop, replicate}
 use Rattle.std.proofs.Common.{sym, ap, ◌∙◌, arith}
 use Rattle.std.proofs.Math.Option.{Option, some, none}
 use Rattle.std.proofs.Math.Decide.{dec_lt}
@@ -9,17 +9,16 @@ use Rattle.std.proofs.lemmas.List.Edits.{sets}
 use Rattle.std.proofs.Math.Seq.{length-sets, take-append_seam}
 use Rattle.laws.specs.Choice.{pick, chosen}
 use Rattle.laws.specs.Sizes.{input_limit, answer_room, line_room, key_limit, slot_count}
-use Rattle.slots.specs.Slots.{listed}
 use Rattle.listing.proofs.Listing.{length_listed}
 use Rattle.terms.specs.Terms.{sig_refusal, refusal}
 use Rattle.theory.specs.Unify.{Bind, full}
-use Rattle.definitions.specs.Records.{record_of, count_of}
+use Rattle.definitions.specs.Records.{record_of}
 use Rattle.definitions.specs.Decisions.{bindings?}
 use Rattle.definitions.specs.Answers.{Answer, refused, done, refusal_in, first_in, second_in, written, unless, recorded}
 use Rattle.definitions.specs.Answers.{long_from}
 use Rattle.layout.specs.Tables.{Tables, ample}
-use Rattle.calls.specs.Outcome.{Outcome, Result, told}
-use Rattle.library.specs.Store.{Store, open_with, in_use, first_free, put, key_count, answers, candidates, solving_held}
+use Rattle.calls.specs.Outcome.{told}
+use Rattle.library.specs.Store.{Store, open_with, in_use, first_free, put, key_count, answers, solving_held}
 use Rattle.library.specs.Store.{answered, empty, after}
 use Rattle.store.specs.Calls.{opening}
 use Rattle.meaning.specs.Runs.{carried, Called}
@@ -39,8 +38,8 @@ use Rattle.tasks.specs.Operations.{Operation, to_open, to_insert, to_delete, to_
 use Rattle.tasks.specs.Operations.{delete_operation, retrieve_operation, solve_operation, later_operation, payload}
 use Rattle.tasks.specs.Operations.{operation_in}
 use Rattle.tasks.specs.Ordered.{operation_at, place_past}
-use Rattle.answerlines.specs.Words.{word_of, log_word}
-use Rattle.turns.specs.Printed.{library_call, Line, answer, log, store_after, line_then, later_lines, unless_refused}
+use Rattle.answerlines.specs.Words.{word_of}
+use Rattle.turns.specs.Printed.{library_call, log, store_after, line_then, later_lines, unless_refused}
 use Rattle.turns.specs.Printed.{unopened, first_lines, lines_of, done_text, answer_text, text_of, text_of_all, printed}
 use Rattle.turns.specs.Turns.{result_of, told_bytes, line_of, stops_after, made_at, line_at, next_at, Turned}
 use Rattle.turns.specs.LongestLine.{answer_fits, log_fits}

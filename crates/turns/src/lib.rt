@@ -1,5 +1,7 @@
 // One turn of the log program: the field at a place of the log, its call on the lent tables, its line (SCOPE.md, 'The
 // log program').
+#![tactic(auto)]
+
 ghost use Rattle.std.specs.Prelude.{◌≡◌};
 ghost use Rattle.laws.specs.Choice.{pick};
 ghost use Rattle.layout.specs.Tables.{held};
