@@ -5,14 +5,14 @@ ghost use Rattle.logfields.specs.Reading.{past, taken_at};
 
 use crate::field::{Field, field_at};
 
-#[derive(Drop)]
+#[derive(Clone, Copy)]
 pub struct Reader<'a> {
     pub log: &'a [u8],
     pub at: usize,
 }
 
 // What a reader has taken: a field, and the place of the next one.
-#[derive(Drop)]
+#[derive(Clone, Copy)]
 pub struct Taken {
     pub field: Field,
     pub place: usize,

@@ -7,7 +7,7 @@ ghost use Rattle.pairs.specs.Pairs.{first_of, pair_refusal, Answers};
 
 use refusals::{Checked, Refusal};
 
-#[derive(Drop)]
+#[derive(Clone, Copy)]
 pub enum Paired {
     Unifiable,
     Apart,

@@ -83,7 +83,7 @@ fn round(sig: &[u8], pool: &[u16], tab: &[u8; 64], old: &[u16; 64], new: &mut [u
     d
 }
 
-#[derive(Drop)]
+#[derive(Clone, Copy)]
 pub struct Table {
     pub sizes: [u16; 64],
 }

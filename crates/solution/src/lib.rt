@@ -14,7 +14,7 @@ use counting::{fields, long, sizes, total};
 use writing::put_record;
 
 // What solving answers: the number of fields and of bytes written, or a refusal.
-#[derive(Drop)]
+#[derive(Clone, Copy)]
 pub enum Recorded {
     Written(usize, usize),
     Nothing,

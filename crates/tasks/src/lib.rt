@@ -13,7 +13,7 @@ use laws::{INPUT, number_at, wide};
 use logfields::Field;
 
 // An order, where the rest of its payload starts and ends, which is where the next field starts.
-#[derive(Drop)]
+#[derive(Clone, Copy)]
 pub struct Task {
     pub order: Order,
     pub start: usize,

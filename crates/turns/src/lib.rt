@@ -12,7 +12,7 @@ use orders::call;
 use tasks::task_at;
 
 // The length of a field's line, and where the next field starts: at the input's end where the log stops.
-#[derive(Drop)]
+#[derive(Clone, Copy)]
 pub struct Progress {
     pub length: usize,
     pub next: usize,

@@ -81,7 +81,7 @@ fn start(masks: &mut [u64; 64], cls: &mut [u8; 64])
     }
 }
 
-#[derive(Drop)]
+#[derive(Clone, Copy)]
 pub struct Outcome {
     pub code: u8,
     pub tab: [u8; 64],
