@@ -1,10 +1,11 @@
 // Replays an operation log from standard input (SCOPE.md, 'The log program'): reads it, and turn after turn writes a
 // line. What each turn does, and that the lines are those of the definition, stands in crate turns.
-use std::io;
-use std::io::Write;
+#![tactic(auto)]
 
 use laws::{ANSWER, BYTES, INPUT, LABEL, LINE, LINK, SETS, USED};
 use reading::read_full;
+use std::io;
+use std::io::Write;
 use turns::turn;
 
 // Writes the first n bytes of a line to standard output.
