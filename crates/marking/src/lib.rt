@@ -1,4 +1,6 @@
 // A slot put into the set of a key, and taken out of it.
+#![tactic(auto)]
+
 ghost use Rattle.std.specs.Prelude.{◌≡◌, ◌<◌, length, get_or, set};
 ghost use Rattle.keysets.specs.KeySets.{four, mark as mark_of, unmark as unmark_of, on, off, SetTablesLong};
 ghost use Rattle.laws.specs.Sizes.{key_limit, slot_count};
