@@ -1,10 +1,7 @@
 // Replays an operation log from standard input (SCOPE.md, 'The log program'): reads it, and turn after turn writes a
 // line. What each turn does, and that the lines are those of the definition, stands in crate turns.
-<<<<<<< HEAD
-=======
 #![tactic(auto)]
 
->>>>>>> db1bcf1f43f6444291ec05bd32914ffa565fab73
 use laws::{ANSWER, BYTES, INPUT, LABEL, LINE, LINK, SETS, USED};
 use reading::read_full;
 use std::io;
