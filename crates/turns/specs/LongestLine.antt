@@ -22,7 +22,7 @@ use Rattle.library.specs.Store.{Store, slots_from, in_use, first_free, put, key_
 use Rattle.library.specs.Store.{answered}
 use Rattle.library.specs.Sound.{free_most, use_below}
 use Rattle.library.specs.Readable.{slots_are}
-use Rattle.lines.specs.Lines.{decimal, hex, slot_list, record_text, ok, no as not, feed, figure, plain_line, refused_line}
+use Rattle.lines.specs.Lines.{decimal, hex, slot_list, record_text, ok, no as no_word, feed, figure, plain_line, refused_line}
 use Rattle.lines.specs.Lines.{slot_line, found_line, solved_line}
 use Rattle.logfields.specs.declared.field.Field.{Field}
 use Rattle.logfields.specs.Reading.{fields_of}
@@ -82,7 +82,7 @@ module _ (word : List ℕ) (short : length word ≤ 8) where
   refused_short : (n : ℕ) → n < 1000 → length (refused_line word n) ≤ line_room
   unfolding refused_line
   refused_short n b =
-      omega (arith, short, decimal_short n b, length-append word (not ++ (figure n ++ feed)), length-append (decimal n) feed)
+      omega (arith, short, decimal_short n b, length-append word (no_word ++ (figure n ++ feed)), length-append (decimal n) feed)
 
   slot_short : (n : ℕ) → n < 1000 → length (slot_line word n) ≤ line_room
   unfolding slot_line
