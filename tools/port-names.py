@@ -25,6 +25,9 @@ LEMMAS = {
     "free-slot", "confirms-term", "log-line", "line-then", "room_after",
 }
 
+# What the kit's script put in the place of names of this repository, since a library had the same spelling.
+BACK = {"ResultKind": "RK", "get_d_map": "get_or_map"}
+
 
 def snake(name):
     name = name.replace("getD", "get_or")
@@ -102,6 +105,8 @@ def turn(path, new, final):
         at = found.end()
     out.append(text[at:])
     turned = aliases("".join(out))
+    for name, own in BACK.items():
+        turned = re.sub(rf"(?<![\w-]){name}(?![\w-])", own, turned)
     if turned != text:
         open(path, "w", encoding="utf-8").write(turned)
 

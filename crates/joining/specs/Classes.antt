@@ -18,10 +18,10 @@ swap_cases from to x = go (eqb x from) refl
     go true e = inl (eqb-true x from e, refl)
     go false e = inr (eqb-false x from e, refl)
 
-pub get_d_map : (f : ℕ → ℕ) (l : List ℕ) (i : ℕ) → i < length l → get_or (map f l) i 0 ≡ f (get_or l i 0)
-get_d_map f [] i b = absurd (omega arith)
-get_d_map f (x ∷ l) zero b = refl
-get_d_map f (x ∷ l) (suc i) b = get_d_map f l i (omega arith)
+pub get_or_map : (f : ℕ → ℕ) (l : List ℕ) (i : ℕ) → i < length l → get_or (map f l) i 0 ≡ f (get_or l i 0)
+get_or_map f [] i b = absurd (omega arith)
+get_or_map f (x ∷ l) zero b = refl
+get_or_map f (x ∷ l) (suc i) b = get_or_map f l i (omega arith)
 
 -- how many nodes have their own number
 tally : {A : Type 0} → Dec A → ℕ
@@ -110,7 +110,7 @@ module _ (n : ℕ) (cls : List ℕ) (c : Classes n cls) (p q : ℕ) (pl : p < 64
   join = map (swap (get_or cls p 0) (get_or cls q 0)) cls
 
   at : (i : ℕ) → i < 64 → get_or join i 0 ≡ swap (get_or cls p 0) (get_or cls q 0) (get_or cls i 0)
-  at i b = get_d_map (swap (get_or cls p 0) (get_or cls q 0)) cls i (omega (arith, c.many))
+  at i b = get_or_map (swap (get_or cls p 0) (get_or cls q 0)) cls i (omega (arith, c.many))
 
   pub join_each : (i : ℕ) → i < 64 → ((get_or cls i 0 ≡ get_or cls p 0) × (get_or join i 0 ≡ get_or cls q 0)) ⊎ ((get_or cls i 0 ≢ get_or cls p 0) × (get_or join i 0 ≡ get_or cls i 0))
   join_each i b = rw (at i b) (swap_cases (get_or cls p 0) (get_or cls q 0) (get_or cls i 0))

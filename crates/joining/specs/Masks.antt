@@ -10,7 +10,7 @@ use Rattle.theory.specs.Subst.{vars, app, Occurs, in_app, in_app_of}
 use Rattle.theory.specs.Unify.{one, one_same, one_other, Bind, ◌:=◌, full, Unbound}
 use Rattle.laws.specs.Choice.{pick}
 use Rattle.laws.specs.Digits.{bit, bit_or_lem, bit_pow_same, bit_pow_other}
-use Rattle.joining.specs.Classes.{get_d_map}
+use Rattle.joining.specs.Classes.{get_or_map}
 
 -- z is in the set w
 abbrev pub On : ℕ → ℕ → Type 0
@@ -137,7 +137,7 @@ sets_term B ms s l nm z n = ((λ o. to ((on_mask ms 0 z l).0 o)), λ i. let r = 
     to (inr h) = in_app_of (full B) z h.0 l h.1 ((s h.0 z (nm h.0 h.1) n).0 h.2)
 
 pub sets_bind : (B : List Bind) (ms : List ℕ) → length ms ≡ 64 → VariableSets B ms → (x : ℕ) (u : List Item) → Unbound x B → WrittenOnly u → VariableSets ((x := u) ∷ B) (map (spread x (mask_of ms 0 u)) ms)
-sets_bind B ms e s x u nx nm y z b n = rw (get_d_map (spread x (mask_of ms 0 u)) ms y (omega arith)) (
+sets_bind B ms e s x u nx nm y z b n = rw (get_or_map (spread x (mask_of ms 0 u)) ms y (omega arith)) (
   (λ o. (in_one x z (app (full B) u) (full B y) n.0).1 (to ((on_spread x (mask_of ms 0 u) (get_or ms y 0) z).0 o))),
   (λ i. (on_spread x (mask_of ms 0 u) (get_or ms y 0) z).1 (from ((in_one x z (app (full B) u) (full B y) n.0).0 i))),
 )

@@ -13,7 +13,7 @@ use Rattle.terms.specs.Terms.{refusal}
 use Rattle.definitions.specs.Spelt.{clash, keys_stand}
 use Rattle.library.specs.Store.{Store, keys_in, keys_from, keys_held, distinct, key_count, put}
 use Rattle.library.specs.Readable.{distinct_in, distinct_nodup}
-use Rattle.paths.specs.Insert.{ResultKind}
+use Rattle.paths.specs.Insert.{RK}
 use Rattle.paths.specs.StoredTrees.{Stored, KeyIn}
 use Rattle.paths.specs.Count.{Distinct}
 use Rattle.layout.specs.Tables.{Tables}
@@ -29,13 +29,13 @@ module _ (st : Store) where
   in_keys none P e = ((λ i. i), (λ i. i))
   in_keys (some t) P e = keys_stand st.signature t (key P e)
 
-  keys_from_lem : (k s : ℕ) (K : Key) → In K (keys_from st k s) → (u : ℕ) × ResultKind (Stored (trees_of st)) u K
+  keys_from_lem : (k s : ℕ) (K : Key) → In K (keys_from st k s) → (u : ℕ) × RK (Stored (trees_of st)) u K
   unfolding keys_from
   keys_from_lem zero s K h = absurd h
   keys_from_lem (suc k) s (key P e) h =
       ⊎_elim (λ i. (s, (in_keys (st.held s) P e).0 i)) (λ i. keys_from_lem k (suc s) (key P e) i) (in_append (key P e) (keys_in st.signature (st.held s)) (keys_from st k (suc s)) h)
 
-  into_keys : (k s : ℕ) (K : Key) (u : ℕ) → s ≤ u → u < s + k → ResultKind (Stored (trees_of st)) u K → In K (keys_from st k s)
+  into_keys : (k s : ℕ) (K : Key) (u : ℕ) → s ≤ u → u < s + k → RK (Stored (trees_of st)) u K → In K (keys_from st k s)
   unfolding keys_from
   into_keys zero s K u a b h = absurd (omega arith)
   into_keys (suc k) s (key P e) u a b h = go (ℕ_discrete u s) (λ q. into_keys k (suc s) (key P e) u q (omega arith) h)
@@ -44,7 +44,7 @@ module _ (st : Store) where
       go (yes q) ih = in_left (key P e) (keys_in st.signature (st.held s)) (keys_from st k (suc s)) ((in_keys (st.held s) P e).1 (rw q at h))
       go (no q) ih = in_right (key P e) (keys_in st.signature (st.held s)) (keys_from st k (suc s)) (ih (omega arith))
 
-  slot_low : ((s : ℕ) → slot_count ≤ s → st.held s ≡ none) → (u : ℕ) (K : Key) → ResultKind (Stored (trees_of st)) u K → u < slot_count
+  slot_low : ((s : ℕ) → slot_count ≤ s → st.held s ≡ none) → (u : ℕ) (K : Key) → RK (Stored (trees_of st)) u K → u < slot_count
   slot_low b u (key P e) h = go (dec_lt u slot_count)
     where
       go : Dec (u < slot_count) → u < slot_count

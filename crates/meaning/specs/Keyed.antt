@@ -11,7 +11,7 @@ use Rattle.definitions.specs.Spelt.{clash}
 use Rattle.library.specs.Formulas.{has_key}
 use Rattle.library.specs.FormulasTable.{has_key_lem}
 use Rattle.definitions.specs.KeyBytes.{key_of}
-use Rattle.paths.specs.Insert.{ResultKind}
+use Rattle.paths.specs.Insert.{RK}
 use Rattle.paths.specs.StoredTrees.{Stored, KeyIn}
 use Rattle.slots.specs.Slots.{has, members}
 use Rattle.library.specs.Store.{Store, holding, keyed, with_key, answered}
@@ -42,7 +42,7 @@ module _ (T : Tables) (st : Store) (h : Stand T st) where
   pub key_slots : (k : List ℕ) → is_key st.signature k ≡ true → (s : ℕ) → s < slot_count → (has (slots_of_key T k) s ≡ 1) ↔ (slot_has_key st (key_of k) s ≡ true)
   key_slots k q s l = go (key_of k) (key_means T st.signature st.held k s h.holds q l)
     where
-      go : (K : Key) → (has (slots_of_key T k) s ≡ 1) ↔ ResultKind (KeysOf st.signature st.held) s K → (has (slots_of_key T k) s ≡ 1) ↔ (slot_has_key st K s ≡ true)
+      go : (K : Key) → (has (slots_of_key T k) s ≡ 1) ↔ RK (KeysOf st.signature st.held) s K → (has (slots_of_key T k) s ≡ 1) ↔ (slot_has_key st K s ≡ true)
       go (key P e) c = ((λ z. (holds_key_lem st P e s).1 (c.0 z)), (λ z. c.1 ((holds_key_lem st P e s).0 z)))
 
   pub key_members : (k : List ℕ) → is_key st.signature k ≡ true → members (slots_of_key T k) ≡ keyed st k

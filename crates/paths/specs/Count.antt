@@ -11,15 +11,15 @@ use Rattle.laws.specs.Members.{In, NoDup, nodup_le, nodup_append, in_append, in_
 use Rattle.keys.specs.Keys.{Place, Key, key}
 use Rattle.paths.specs.Rep.{Rep, Full, den_fun, den_inj}
 use Rattle.paths.specs.Free.{free_of, frees}
-use Rattle.paths.specs.Insert.{DenK, ResultKind, Lack, done, has, new, With}
+use Rattle.paths.specs.Insert.{DenK, RK, Lack, done, has, new, With}
 use Rattle.laws.specs.Sizes.{key_limit}
 
 -- R has n distinct keys
 pub record Distinct (R : ℕ → Place → ℕ → Type 0) (n : ℕ) : Type 0 where
   pub keys : List Key
   pub nodup : NoDup keys
-  pub from : (K : Key) → In K keys → (s : ℕ) × ResultKind R s K
-  pub into : (s : ℕ) (K : Key) → ResultKind R s K → In K keys
+  pub from : (K : Key) → In K keys → (s : ℕ) × RK R s K
+  pub into : (s : ℕ) (K : Key) → RK R s K → In K keys
   pub many : length keys ≡ n
 
 pub distinct_one : (R : ℕ → Place → ℕ → Type 0) (n m : ℕ) → Distinct R n → Distinct R m → n ≡ m
@@ -76,10 +76,10 @@ module _ (link label : List ℕ) (mem : ℕ → ℕ → Type 0) (R : ℕ → Pla
   den_low : (k : ℕ) (K : Key) → DenK label k K → k < key_limit
   den_low k (key P e) d = d.low
 
-  there : (s : ℕ) (K : Key) → ResultKind R s K → (k : ℕ) × DenK label k K
+  there : (s : ℕ) (K : Key) → RK R s K → (k : ℕ) × DenK label k K
   there s (key P e) h = r.there s P e h
 
-  some_slot : (k : ℕ) (K : Key) → DenK label k K → (s : ℕ) × ResultKind R s K
+  some_slot : (k : ℕ) (K : Key) → DenK label k K → (s : ℕ) × RK R s K
   unfolding Full
   some_slot k (key P e) d = let w = full k d.low (λ z. den_used k (key P e) d z) (λ z. let l = d.low in omega arith) in (w.0, r.into k w.0 P e d w.1)
 
@@ -108,10 +108,10 @@ module _ (link label : List ℕ) (mem : ℕ → ℕ → Type 0) (R : ℕ → Pla
     many = ap suc u.many;
   }
 
-  with_in : (s t : ℕ) (Ks : List Key) (K : Key) → ResultKind (With R s Ks) t K → ResultKind R t K ⊎ In K Ks
+  with_in : (s t : ℕ) (Ks : List Key) (K : Key) → RK (With R s Ks) t K → RK R t K ⊎ In K Ks
   with_in s t Ks (key P e) h = ⊎_elim (λ x. inl x) (λ x. inr x.1) h
 
-  in_with : (s t : ℕ) (Ks : List Key) (K : Key) → ResultKind R t K ⊎ ((t ≡ s) × In K Ks) → ResultKind (With R s Ks) t K
+  in_with : (s t : ℕ) (Ks : List Key) (K : Key) → RK R t K ⊎ ((t ≡ s) × In K Ks) → RK (With R s Ks) t K
   in_with s t Ks (key P e) h = h
 
   -- the keys after an insert

@@ -22,8 +22,8 @@ use Rattle.laws.specs.Sizes.{key_limit, link_length, slot_count}
 abbrev pub DenK : List ℕ → ℕ → Key → Type 0
 DenK label k (key P e) = Den label k P e
 
-abbrev pub ResultKind : (ℕ → Place → ℕ → Type 0) → ℕ → Key → Type 0
-ResultKind R s (key P e) = R s P e
+abbrev pub RK : (ℕ → Place → ℕ → Type 0) → ℕ → Key → Type 0
+RK R s (key P e) = R s P e
 
 -- key numbers that are these keys
 abbrev pub Dens : List ℕ → List ℕ → List Key → Type 0
@@ -82,12 +82,12 @@ up_at label ks Ks (suc v) d b = go (get_or Ks (v / 8) (key root 0)) (dens_get la
     go : (K : Key) → DenK label (get_or ks (v / 8) 0) K → At label (get_or ks (v / 8) 0 * 8 + v % 8) (kid_of K (v % 8))
     go (key P e) h = kid {i = v % 8} h.at h.low h.is h.fits (omega arith) refl
 
-pub up_above : (label : List ℕ) (R : ℕ → Place → ℕ → Type 0) (s : ℕ) (ks : List ℕ) (Ks : List Key) (u : ℕ) → Dens label ks Ks → ((K : Key) → In K Ks → ResultKind R s K) → Back (length Ks) (u ∷ []) → Above R s (up_place Ks u)
+pub up_above : (label : List ℕ) (R : ℕ → Place → ℕ → Type 0) (s : ℕ) (ks : List ℕ) (Ks : List Key) (u : ℕ) → Dens label ks Ks → ((K : Key) → In K Ks → RK R s K) → Back (length Ks) (u ∷ []) → Above R s (up_place Ks u)
 unfolding up_place
 up_above label R s ks Ks zero d i b = tt
 up_above label R s ks Ks (suc v) d i b = go (get_or Ks (v / 8) (key root 0)) (i _ (dens_get label ks Ks (v / 8) d b.0).1)
   where
-    go : (K : Key) → ResultKind R s K → Above R s (kid_of K (v % 8))
+    go : (K : Key) → RK R s K → Above R s (kid_of K (v % 8))
     go (key P e) h = h
 
 pub back_one : (n u : ℕ) (us : List ℕ) → Back n (u ∷ us) → Back n (u ∷ []) × Back (suc n) us
@@ -291,7 +291,7 @@ module _ (S : Type 0) (mem : S → ℕ → ℕ → Type 0) (mark : S → ℕ →
         back (inl r) = inl (inl r)
         back (inr w) = same w.0 w.1
 
-    in_snoc : (R : ℕ → Place → ℕ → Type 0) (s : ℕ) (P : Place) (e : ℕ) (Ks : List Key) → ((K : Key) → In K Ks → ResultKind R s K) → (K : Key) → In K (Ks ++ key P e ∷ []) → ResultKind (Plus R s P e) s K
+    in_snoc : (R : ℕ → Place → ℕ → Type 0) (s : ℕ) (P : Place) (e : ℕ) (Ks : List Key) → ((K : Key) → In K Ks → RK R s K) → (K : Key) → In K (Ks ++ key P e ∷ []) → RK (Plus R s P e) s K
     in_snoc R s P e Ks i (key Q f) h = ⊎_elim (λ x. inl (i (key Q f) x)) (λ x. inr (last x)) (in_append (key Q f) Ks (key P e ∷ []) h)
       where
         last : In (key Q f) (key P e ∷ []) → (s ≡ s) × (Q ≡ P) × (f ≡ e)
@@ -300,7 +300,7 @@ module _ (S : Type 0) (mem : S → ℕ → ℕ → Type 0) (mark : S → ℕ →
 
     -- the whole term
     pub ins_good : (us es : List ℕ) (σ : St S) (R : ℕ → Place → ℕ → Type 0) (s : ℕ) (ks : List ℕ) (Ks : List Key) (m : ℕ) → GoodTables σ R → s < slot_count → Dens σ.label ks Ks
-        → ((K : Key) → In K Ks → ResultKind R s K) → Back (length Ks) us → EndLabels es → NoDup (key_list Ks us es) → Lack σ.label (key_list Ks us es) m → m ≤ frees σ.label
+        → ((K : Key) → In K Ks → RK R s K) → Back (length Ks) us → EndLabels es → NoDup (key_list Ks us es) → Lack σ.label (key_list Ks us es) m → m ≤ frees σ.label
         → GoodTables (ins_run S mark σ s ks us es) (With R s (key_list Ks us es))
     unfolding ins_run key_list
     ins_good [] es σ R s ks Ks m g l d i b f nd la en = record { rep = rep_iff _ _ _ R _ (λ t Q h. (inl, (λ w. ⊎_elim (λ x. x) (λ x. absurd x.1) w))) g.rep; full = g.full; links = g.links; labels = g.labels; ok = g.ok }

@@ -17,7 +17,7 @@ use Rattle.definitions.specs.Spelt.{size_items}
 use Rattle.keysets.specs.KeySets.{mem}
 use Rattle.paths.specs.Free.{frees, room}
 use Rattle.paths.specs.TreeWalk.{ups_t, ups_a, ends_t, key_list}
-use Rattle.paths.specs.Insert.{ResultKind, With}
+use Rattle.paths.specs.Insert.{RK, With}
 use Rattle.paths.specs.Locate.{num_list, missing, located as located_keys, lack_of}
 use Rattle.paths.specs.StoredTrees.{Stored, KeyIn, put_tree, Storable, fine_back, fine_nodup, fine_in}
 use Rattle.paths.specs.SpeltKeys.{spelt}
@@ -249,10 +249,10 @@ distinct_iff R Q n e d = record {
   many = d.many;
 }
   where
-    to : (s : ℕ) (K : Key) → ResultKind R s K → ResultKind Q s K
+    to : (s : ℕ) (K : Key) → RK R s K → RK Q s K
     to s (key P x) h = (e s P x).0 h
 
-    fro : (s : ℕ) (K : Key) → ResultKind Q s K → ResultKind R s K
+    fro : (s : ℕ) (K : Key) → RK Q s K → RK R s K
     fro s (key P x) h = (e s P x).1 h
 
 abbrev pub KeysOf : List ℕ → Slots → ℕ → Place → ℕ → Type 0

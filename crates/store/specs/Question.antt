@@ -19,7 +19,7 @@ use Rattle.definitions.specs.KeyBytes.{key_after, key_of}
 use Rattle.chains.specs.Chains.{find, find_sound}
 use Rattle.keysets.specs.KeySets.{Sets, four, word, mem, met}
 use Rattle.paths.specs.Rep.{lab, lab_inj, At, top, kid, Rep, find_den, find_none}
-use Rattle.paths.specs.Insert.{DenK, ResultKind}
+use Rattle.paths.specs.Insert.{DenK, RK}
 use Rattle.paths.specs.Locate.{find_le}
 use Rattle.paths.specs.StoredTrees.{KeyIn}
 use Rattle.layout.specs.Layout.{used_of}
@@ -143,7 +143,7 @@ met_none S m ws s l = rw (le-ltb m key_limit l) (zero_words 8 (s / 64))
     zero_words (suc n) (suc i) = zero_words n i
 
 -- THE KEY QUESTION: a slot is listed exactly where it holds a term that has the key
-pub key_means : (T : Tables) (sig : List ℕ) (st : Slots) (k : List ℕ) (s : ℕ) → Holds T sig st → is_key sig k ≡ true → s < slot_count → (has (slots_of_key T k) s ≡ 1) ↔ ResultKind (KeysOf sig st) s (key_of k)
+pub key_means : (T : Tables) (sig : List ℕ) (st : Slots) (k : List ℕ) (s : ℕ) → Holds T sig st → is_key sig k ≡ true → s < slot_count → (has (slots_of_key T k) s ≡ 1) ↔ RK (KeysOf sig st) s (key_of k)
 unfolding slots_of_key key_number is_key key_of
 key_means T sig st k s h e l = go (key_after root k) n (dec_lt m key_limit)
   where
@@ -170,7 +170,7 @@ key_means T sig st k s h e l = go (key_after root k) n (dec_lt m key_limit)
         some_there none q = absurd q
         some_there (some t) q = refl
 
-    go : (K : Key) → KeyFound T.label m K → Dec (m < key_limit) → (has (met S m (used_of T.used)) s ≡ 1) ↔ ResultKind (KeysOf sig st) s K
+    go : (K : Key) → KeyFound T.label m K → Dec (m < key_limit) → (has (met S m (used_of T.used)) s ≡ 1) ↔ RK (KeysOf sig st) s K
     go (key P x) d (yes q) = (
       (λ z. let y = met_has S m (used_of T.used) s q l in h.index.rep.into m s P x (d.found q) (q, l, omega (arith, z, y))),
       (λ z. let y = met_has S m (used_of T.used) s q l in let w = h.index.rep.from m s P x (d.found q) z in let v = in_slot P x z in let b = w.2 in omega (arith, y, v, b)),

@@ -1,7 +1,7 @@
 -- SCOPE.md, 'The log program': what `replay` prints for the bytes of its input, sentence by sentence, with the library
--- as functions on stores (library/specs/Store.antt). Fields are cut in log/specs (Fields, Reading); which operation a
--- field is stands in tasks/specs/Operations, the word of a line in answerlines/specs/Words, and the bytes of a line are
--- those of log/specs/Lines. It computes: Example.antt has the scope's example.
+-- as functions on stores (library/specs/Store.antt). Fields are cut in logfields/specs (Fields, Reading); which
+-- operation a field is stands in tasks/specs/Operations, the word of a line in answerlines/specs/Words, and the bytes of
+-- a line are those of lines/specs/Lines. It computes: Example.antt has the scope's example.
 use Rattle.std.specs.Prelude.{ℕ, true, false, List, [], ◌∷◌, ◌++◌, ltb, length}
 use Rattle.std.proofs.Math.Option.{Option, some, none}
 use Rattle.laws.specs.Choice.{pick}
