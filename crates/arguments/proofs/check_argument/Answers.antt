@@ -32,4 +32,4 @@ unfolding arg_refusal
 returns c = let b = c in
     let e = sym (b.number.ensures ∙ b.check-checked.ensures) ∙ b.if-number-ne0.false in
     let f = rw (c.arity.ensures.0, c.number_at.ensures.0) at c.if-arity-i.false in
-    rw (e, ne_eqb _ _ b.if-i-eq0.false, le-ltb _ _ f)
+    rw (e, ne_eqb c.args.i 0 (λ z. omega (arith, z)), le-ltb _ _ f)

@@ -3,7 +3,7 @@ use mathlib.Core.Path.{◌≡◌, sym, ap, ◌∙◌}
 use mathlib.Core.Bool.{true, false}
 use native.Mathlib.Omega.{arith}
 use borrow.Author.Tests.{lt-ltb, le-ltb}
-use lib.ListN.{get_or, length-drop}
+use lib.ListN.{get_or, length, length-drop}
 use Rattle.laws.proofs.Lists.{tail_part}
 use Rattle.keys.specs.Bytes.{is_key, step_good, end_good}
 use Rattle.keys.proofs.KeyLaws.{steps_more, steps_end, steps_short}
@@ -37,4 +37,4 @@ pub returns : goal.returns
 unfolding is_key
 returns c = let l = c.loop-rest in
     let e = c.end_good.ensures ∙ ap (end_good _) c.number_at.ensures.0 in
-    simp (le-ltb _ _ c.if-key-gt95.false) (e ∙ sym (l.invariant ∙ steps_end _ l.rest.now c.if-rest-ne2.false))
+    simp (le-ltb 95 (length c.args.key.now) (omega arith)) (e ∙ sym (l.invariant ∙ steps_end _ l.rest.now c.if-rest-ne2.false))

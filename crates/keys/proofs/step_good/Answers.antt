@@ -1,3 +1,4 @@
+use native.Mathlib.Omega.{arith}
 use borrow.Author.Tests.{lt-ltb, le-ltb, eq-eqb, ne_eqb}
 use Rattle.keys.specs.Bytes.{step_good}
 use Rattle.keys.proofs.step_good.Goals as goal
@@ -12,4 +13,4 @@ returns-then-i-eq0 c = rw (← c.number_at-f.ensures.0, ← c.wide-i.ensures.0) 
 
 pub returns : goal.returns
 unfolding step_good
-returns c = rw (← c.number_at-f.ensures.0, ← c.wide-i.ensures.0, ← c.arity.ensures.0) (simp (lt-ltb _ _ c.if-sig-f.false, ne_eqb _ _ c.if-i-eq0.false))
+returns c = rw (← c.number_at-f.ensures.0, ← c.wide-i.ensures.0, ← c.arity.ensures.0) (simp (lt-ltb _ _ c.if-sig-f.false, ne_eqb c.wide-i.result 0 (λ z. omega (arith, z))))

@@ -1,3 +1,4 @@
+use native.Mathlib.Omega.{arith}
 use Rattle.layout.proofs.LayoutLaws.{sig_none, sig_bad, sig_fine}
 use Rattle.layout.proofs.signature.Goals as goal
 
@@ -8,4 +9,4 @@ pub returns-then-largest-gt8 : goal.returns-then-largest-gt8
 returns-then-largest-gt8 c = sig_bad _ _ c.number_at-n.ensures.0 c.if-n-gt256.false _ c.largest.ensures c.if-largest-gt8.true
 
 pub returns : goal.returns
-returns c = sig_fine _ _ c.number_at-n.ensures.0 c.if-n-gt256.false _ c.largest.ensures c.if-largest-gt8.false
+returns c = sig_fine _ _ c.number_at-n.ensures.0 c.if-n-gt256.false _ c.largest.ensures (omega arith)

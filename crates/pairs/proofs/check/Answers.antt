@@ -10,4 +10,4 @@ pub first-requires : goal.first-requires
 first-requires c = (rw c.check.ensures (term_few _ _), rw c.check-2.ensures (term_few _ _))
 
 pub returns : goal.returns
-returns c = c.first.ensures ∙ first_of_both _ _ _ _ c.check.ensures c.check-2.ensures ∙ pair_terms _ _ _ (omega (arith, c.check_signature-signature.ensures, c.number.ensures, c.if-number-ne0.false))
+returns c = c.first.ensures ∙ first_of_both _ _ _ _ c.check.ensures c.check-2.ensures ∙ pair_terms _ _ _ (omega (arith, c.check_signature-signature.ensures, c.number.ensures))

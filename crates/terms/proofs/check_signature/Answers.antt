@@ -1,5 +1,7 @@
 use borrow.Author.Tests.{le-ltb, lt-ltb, eq-eqb, ne_eqb}
 use mathlib.Core.Path.{sym, ◌∙◌}
+use native.Mathlib.Omega.{arith}
+use lib.ListN.{length}
 use Rattle.terms.specs.Terms.{sig_refusal}
 use Rattle.terms.proofs.check_signature.Goals as goal
 
@@ -17,4 +19,4 @@ returns-then-arities_good c = rw (ne_eqb _ _ c.if-sig-eq0.false, le-ltb _ _ c.if
 
 pub returns : goal.returns
 unfolding sig_refusal
-returns c = rw (ne_eqb _ _ c.if-sig-eq0.false, le-ltb _ _ c.if-sig-gt256.false, sym c.arities_good.ensures ∙ c.if-arities_good.false)
+returns c = rw (ne_eqb _ _ c.if-sig-eq0.false, le-ltb 256 (length c.args.sig.now) (omega arith), sym c.arities_good.ensures ∙ c.if-arities_good.false)

@@ -1,3 +1,4 @@
+use native.Mathlib.Omega.{arith}
 use Rattle.lines.proofs.LineLaws.{put_within, put_length, put_none, put_then, record_none, record_some}
 use Rattle.lines.proofs.line.put_record.Goals as goal
 
@@ -14,4 +15,4 @@ pub shape_of-line : goal.shape_of-line
 shape_of-line c = put_length (put_then c.put_byte-next.ensures c.put_hex.ensures)
 
 pub returns : goal.returns
-returns c = rw (record_some _ c.if-bytes-eq0.false) (put_then c.put_byte-next.ensures c.put_hex.ensures)
+returns c = rw (record_some c.args.bytes.now (λ z. omega (arith, z))) (put_then c.put_byte-next.ensures c.put_hex.ensures)
