@@ -5,55 +5,38 @@ ghost use Rattle.std.specs.Prelude.{◌≡◌};
 ghost use Rattle.slots.specs.Slots.{both, either, others, none_in};
 
 use slots::SlotSet;
+use std::array;
 
-// The slots that both sets have.
+// The slots that both sets have. Like `or` but for the operator: one function over it would be named at each call.
 pub fn and(set: SlotSet, other: SlotSet) -> SlotSet
     ensures { result.words ≡ both set.words other.words }
 {
-    let mut out = [0u64; SlotSet::WORDS];
-    let mut i: usize = 0;
-    while i < SlotSet::WORDS {
-        out[i] = set.words[i] & other.words[i];
-        i += 1;
+    SlotSet {
+        words: array::from_fn(|i| set.words[i] & other.words[i]),
     }
-    SlotSet { words: out }
 }
 
 // The slots that one of both sets has.
 pub fn or(set: SlotSet, other: SlotSet) -> SlotSet
     ensures { result.words ≡ either set.words other.words }
 {
-    let mut out = [0u64; SlotSet::WORDS];
-    let mut i: usize = 0;
-    while i < SlotSet::WORDS {
-        out[i] = set.words[i] | other.words[i];
-        i += 1;
+    SlotSet {
+        words: array::from_fn(|i| set.words[i] | other.words[i]),
     }
-    SlotSet { words: out }
 }
 
 // The slots that are not in the set.
 pub fn complement(set: SlotSet) -> SlotSet
     ensures { result.words ≡ others set.words }
 {
-    let mut rest = [0u64; SlotSet::WORDS];
-    let mut i: usize = 0;
-    while i < SlotSet::WORDS {
-        rest[i] = !set.words[i];
-        i += 1;
+    SlotSet {
+        words: array::from_fn(|i| !set.words[i]),
     }
-    SlotSet { words: rest }
 }
 
 // Has the set no slot.
 pub fn is_empty(set: SlotSet) -> bool
     ensures { result ≡ none_in set.words }
 {
-    let mut any = set.words[0];
-    let mut i: usize = 1;
-    while i < SlotSet::WORDS {
-        any |= set.words[i];
-        i += 1;
-    }
-    any == 0
+    set.words.iter().all(|word| *word == 0)
 }

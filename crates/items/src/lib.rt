@@ -6,17 +6,14 @@ ghost use Rattle.std.proofs.lemmas.List.Edits.{sets};
 ghost use Rattle.variables.specs.Banks.{bank_of};
 ghost use Rattle.items.specs.Decoding.{written_as, decoded};
 
-use laws::{VARIABLE_END16, VARIABLE16, low16, number_at};
+use laws::{VARIABLE_END16, VARIABLE16, number_at};
 use variables::{Bank, QuestionVariable, StoredVariable};
 
 // The number of an item as written: a symbol's own, a variable's by the step from its side. What is no item stays.
 fn code(bank: Bank, c: u16) -> u16
     ensures { result ≡ written_as (bank_of bank) c }
 {
-    if c < VARIABLE16 {
-        return c;
-    }
-    if VARIABLE_END16 <= c {
+    if !(VARIABLE16..VARIABLE_END16).contains(&c) {
         return c;
     }
     match bank {
@@ -32,10 +29,8 @@ pub fn load(out: &mut [u16], at: usize, t: &[u8], bank: Bank) -> usize
         × (out.new ≡ sets out.old at (decoded (bank_of bank) t.now)) }
 {
     let n = t.len() / 2;
-    let mut i: usize = 0;
-    while i < n {
-        out[at + i] = code(bank, low16(number_at(t, 2 * i)));
-        i += 1;
+    for i in 0..n {
+        out[at + i] = code(bank, number_at(t, 2 * i) as u16);
     }
     n
 }

@@ -1,4 +1,4 @@
-// Numbers from one width to another, each with what it keeps. Laws of lists, parts and choices stand in proofs/.
+// The sizes of the library, and the number of two bytes. Laws of lists, parts and choices stand in proofs/.
 #![tactic(auto)]
 
 ghost use Rattle.std.specs.Prelude.{◌≡◌, ◌+◌, ◌*◌, ◌<◌, length, get_or};
@@ -52,49 +52,10 @@ pub const ANSWER: usize = 32768;
 
 pub const LINE: usize = 2 * ANSWER + 64;
 
-// A byte as a number.
-pub fn wide(x: u8) -> usize
-    ensures { (result ≡ x) × (result < 256) }
-{
-    x as usize
-}
-
-// Two bytes' number as a number.
-pub fn wide16(x: u16) -> usize
-    ensures { (result ≡ x) × (result < 65536) }
-{
-    x as usize
-}
-
-// A label as a number.
-pub fn wide32(x: u32) -> usize
-    ensures { (result ≡ x) × (result < 4294967296) }
-{
-    x as usize
-}
-
-// A number that fits a byte.
-pub fn low(x: usize) -> u8
-    requires { x < 256 }
-    ensures { result ≡ x }
-{
-    x as u8
-}
-
-// A number that fits two bytes.
-pub fn low16(x: usize) -> u16
-    requires { x < 65536 }
-    ensures { result ≡ x }
-{
-    x as u16
-}
-
 // The number of two bytes, high byte first: an item, a length, a slot.
 pub fn number_at(t: &[u8], at: usize) -> usize
     requires { at + 1 < length t.now }
     ensures { (result ≡ get_or t.now at 0 * 256 + get_or t.now (at + 1) 0) × (result < 65536) }
 {
-    let h = wide(t[at]);
-    let l = wide(t[at + 1]);
-    h * 256 + l
+    u16::from_be_bytes([t[at], t[at + 1]]) as usize
 }

@@ -5,15 +5,23 @@ use mathlib.Core.List.{List, [], ◌∷◌}
 use native.Mathlib.Nat.{pow-suc, div-one}
 use native.Mathlib.Numerals.{add-one}
 use native.Mathlib.Omega.{arith}
-use native.Mathlib.Decide.{ℕ_discrete}
+use native.Mathlib.Decide.{ℕ_discrete, dec_lt}
 use borrow.Author.Tests.{eq-eqb, ne_eqb}
+use borrow.Rule.Slice.PartMut.{put_mid}
+use Rattle.std.proofs.lemmas.List.Edits.{sets-eq}
+use Rattle.std.proofs.lemmas.Slice.{put_mid-paste}
+use Rattle.std.proofs.Common.{inl}
 use lib.Count.{ones, ones_step}
 use lib.Dec.{eqb}
-use lib.ListN.{length, get_or, set, take, drop, length-drop, length-set}
+use lib.ListN.{length, get_or, set, take, drop, length-drop}
 use lib.Pow.{shr-shr}
-use lib.Seq.{sets, drop-drop, get_or-drop}
+use lib.Seq.{sets, drop-drop, get_or-drop, take_all}
+use Rattle.std.specs.List.{sum_by}
+use Rattle.std.proofs.lemmas.List.Sums.{sum_by_more}
+use Rattle.laws.specs.Members.{nodup_bound}
+use Rattle.slots.specs.Sets.{members_once, members_has, from_has}
 use Rattle.laws.specs.Choice.{pick}
-use Rattle.laws.proofs.Lists.{front_turn, front_start, front_end}
+use Rattle.laws.proofs.Lists.{front_turn, front_end}
 use Rattle.slots.specs.Slots.{has, members_from, members, listed, Next, next_above}
 use Rattle.laws.specs.Sizes.{slot_count}
 
@@ -51,7 +59,7 @@ tally_word ws i j (suc k) h =
     let e : get_or ws i 0 / 2 ^ suc j ≡ get_or ws i 0 / 2 ^ j / 2 ^ 1 = rw (← add-one j) (sym (shr-shr (get_or ws i 0) j 1)) in
     rw (a, b, d, tally_word ws i (suc j) k (omega arith), e)
 
-pub tally_ones : (ws : List ℕ) (i : ℕ) → get_or ws i 0 < 2 ^ 64 → tally ws 0 (64 * (i + 1)) ≡ tally ws 0 (64 * i) + ones (get_or ws i 0)
+tally_ones : (ws : List ℕ) (i : ℕ) → get_or ws i 0 < 2 ^ 64 → tally ws 0 (64 * (i + 1)) ≡ tally ws 0 (64 * i) + ones (get_or ws i 0)
 tally_ones ws i h =
     let e : 64 * (i + 1) ≡ 64 * i + 64 = omega arith in
     let f : 0 + 64 * i ≡ i * 64 + 0 = omega arith in
@@ -72,13 +80,22 @@ members_tally ws from (suc k) = go (ℕ_discrete (has ws from) 1) (members_tally
     go (yes e) ih = rw (eq-eqb (has ws from) 1 e, e) (omega arith)
     go (no n) ih = let z : has ws from ≡ 0 = omega (arith, less) in rw (ne_eqb (has ws from) 1 n, z) (omega arith)
 
-pub size_start : (ws : List ℕ) → tally ws 0 (64 * 0) ≡ 0
+-- the first i words have the slots below 64 * i
+words_tally : (ws : List ℕ) (i : ℕ) → i ≤ length ws → ((k : ℕ) → get_or ws k 0 < 2 ^ 64) → sum_by ones (take i ws) ≡ tally ws 0 (64 * i)
 unfolding tally
-size_start ws = refl
+words_tally ws zero h w = refl
+words_tally ws (suc i) h w =
+    let e : suc i ≡ i + 1 = omega arith in
+    rw (e, sum_by_more ones ws i 0 (omega arith), tally_ones ws i (w i), words_tally ws i (omega arith) w)
 
-pub size_end : (ws : List ℕ) (i : ℕ) → i ≡ 8 → tally ws 0 (64 * i) ≡ length (members ws)
+pub size_words : (ws : List ℕ) → length ws ≡ 8 → ((k : ℕ) → get_or ws k 0 < 2 ^ 64) → sum_by ones ws ≡ length (members ws)
 unfolding members
-size_end ws i e = rw e (sym (members_tally ws 0 slot_count))
+size_words ws h w =
+    ap (sum_by ones) (sym (take_all 8 ws (omega arith))) ∙ words_tally ws 8 (omega arith) w ∙ sym (members_tally ws 0 slot_count)
+
+-- no more than all slots
+pub size_most : (ws : List ℕ) → length (members ws) ≤ slot_count
+size_most ws = nodup_bound slot_count (members ws) (members_once ws) (λ k i. (members_has ws k i).0)
 
 -- no slot of the set is passed over
 skip : (ws : List ℕ) (d from : ℕ) → from + d ≤ slot_count → ((x : ℕ) → from ≤ x → x < from + d → has ws x ≡ 0)
@@ -91,83 +108,89 @@ skip ws (suc d) from h n =
     let z : has ws from ≡ 1 → ⊥ = λ q. let o = n from (omega arith) (omega arith) in omega (arith, q, o) in
     rw (e, ne_eqb (has ws from) 1 z, f) (skip ws d (suc from) (omega arith) (λ x a b. n x (omega arith) (omega arith)))
 
-pub members_next : (ws : List ℕ) (from r : ℕ) → from ≤ slot_count → Next ws from r → members_from ws from (slot_count - from) ≡ members_from ws r (slot_count - r)
+members_next : (ws : List ℕ) (from r : ℕ) → from ≤ slot_count → Next ws from r → members_from ws from (slot_count - from) ≡ members_from ws r (slot_count - r)
 members_next ws from r h n =
     let a = next_above ws from r n h in
     let e : from + (r - from) ≡ r = omega (arith, a) in
     rw e at (skip ws (r - from) from (omega (arith, a, n.most)) (λ x p q. n.passed x p (omega (arith, a, q))))
 
-pub members_here : (ws : List ℕ) (r : ℕ) → r < slot_count → has ws r ≡ 1 → members_from ws r (slot_count - r) ≡ r ∷ members_from ws (r + 1) (slot_count - (r + 1))
+members_here : (ws : List ℕ) (r : ℕ) → r < slot_count → has ws r ≡ 1 → members_from ws r (slot_count - r) ≡ r ∷ members_from ws (r + 1) (slot_count - (r + 1))
 unfolding members_from
 members_here ws r h e =
     let f : slot_count - r ≡ suc (slot_count - (r + 1)) = omega arith in
     rw (f, eq-eqb (has ws r) 1 e, add-one r)
 
-pub members_done : (ws : List ℕ) (r : ℕ) → slot_count ≤ r → members_from ws r (slot_count - r) ≡ []
+members_done : (ws : List ℕ) (r : ℕ) → slot_count ≤ r → members_from ws r (slot_count - r) ≡ []
 unfolding members_from
 members_done ws r h = let e : slot_count - r ≡ 0 = omega arith in rw e
+
+-- a step of a walk over a set: the slot that comes next is the first that is left, and where there is none, none is
+pub left_some : (ws : List ℕ) (from r : ℕ) → r < slot_count → Next ws from r
+    → members_from ws from (slot_count - from) ≡ r ∷ members_from ws (r + 1) (slot_count - (r + 1))
+left_some ws from r h n = members_next ws from r (omega (arith, n.above h)) n ∙ members_here ws r h (n.member h)
+
+pub left_none : (ws : List ℕ) (from : ℕ) → Next ws from slot_count → members_from ws from (slot_count - from) ≡ []
+left_none ws from n = go (dec_lt from slot_count)
+  where
+    go : Dec (from < slot_count) → members_from ws from (slot_count - from) ≡ []
+    go (yes l) = members_next ws from slot_count (omega arith) n ∙ members_done ws slot_count (omega arith)
+    go (no l) = members_done ws from (omega arith)
 
 pub length_listed : (ss : List ℕ) → length (listed ss) ≡ 2 * length ss
 unfolding listed
 length_listed [] = refl
 length_listed (s ∷ ss) = omega (arith, length_listed ss)
 
--- where a loop that lists the set stands: `at` bytes are written, and the slots from `slot` on are to come
-pub record Listing (ws out out₀ : List ℕ) (at slot : ℕ) : Type 0 where
-  pub within : at ≤ length (listed (members ws))
-  pub same : length out ≡ length out₀
-  pub rest : drop at (listed (members ws)) ≡ listed (members_from ws slot (slot_count - slot))
-  pub filled : out ≡ sets out₀ 0 (take at (listed (members ws)))
-  pub here : slot < slot_count → has ws slot ≡ 1
-  pub most : slot ≤ slot_count
-
-listed_head : (s : ℕ) (ss : List ℕ) → listed (s ∷ ss) ≡ s / 256 ∷ s % 256 ∷ listed ss
-unfolding listed
-listed_head s ss = refl
-
-pub list_start : (ws out : List ℕ) (r : ℕ) → Next ws 0 r → Listing ws out out 0 r
-list_start ws out r n = record {
-  within = omega arith;
-  same = refl;
-  rest = unfold members in (ap listed (members_next ws 0 r (omega arith) n));
-  filled = front_start out (listed (members ws));
-  here = n.member;
-  most = n.most;
-}
-
-module _ (ws out out₀ : List ℕ) (at slot : ℕ) (l : Listing ws out out₀ at slot) (h : slot < slot_count) where
-  ahead : drop at (listed (members ws)) ≡ slot / 256 ∷ slot % 256 ∷ listed (members_from ws (slot + 1) (slot_count - (slot + 1)))
-  ahead = l.rest ∙ ap listed (members_here ws slot h (l.here h)) ∙ listed_head slot (members_from ws (slot + 1) (slot_count - (slot + 1)))
-
-  pub list_room : at + 2 ≤ length (listed (members ws))
-  list_room = let e = ap length ahead in let d = length-drop at (listed (members ws)) in omega (arith, e, d, l.within)
-
-  first : get_or (listed (members ws)) at 0 ≡ slot / 256
-  first =
-      let z : at + 0 ≡ at = omega arith in
-      ap (λ (k : ℕ). get_or (listed (members ws)) k 0) (sym z) ∙ sym (get_or-drop at (listed (members ws)) 0 0) ∙ ap (λ (r : List ℕ). get_or r 0 0) ahead
-
-  second : get_or (listed (members ws)) (at + 1) 0 ≡ slot % 256
-  second = sym (get_or-drop at (listed (members ws)) 1 0) ∙ ap (λ (r : List ℕ). get_or r 1 0) ahead
-
-  pub list_turn : (a b r : ℕ) → a ≡ slot / 256 → b ≡ slot % 256 → Next ws (slot + 1) r → Listing ws (set (set out at a) (at + 1) b) out₀ (at + 2) r
-  list_turn a b r e f n =
-      let room = list_room in
-      let one = front_turn out out₀ (listed (members ws)) at a l.filled (omega arith) (e ∙ sym first) in
-      let two = front_turn (set out at a) out₀ (listed (members ws)) (at + 1) b one (omega arith) (f ∙ sym second) in
-      let z : at + 1 + 1 ≡ at + 2 = omega arith in
-      record {
-        within = room;
-        same = simp length-set l.same;
-        rest = sym (drop-drop 2 at (listed (members ws))) ∙ ap (drop 2) ahead ∙ ap listed (members_next ws (slot + 1) r (omega arith) n);
-        filled = rw z at two;
-        here = n.member;
-        most = n.most;
-      }
-
-pub list_end : (ws out out₀ : List ℕ) (at slot : ℕ) → Listing ws out out₀ at slot → slot_count ≤ slot → out ≡ sets out₀ 0 (listed (members ws))
-unfolding listed
-list_end ws out out₀ at slot l h = front_end out out₀ (listed (members ws)) at l.filled (go (l.rest ∙ ap listed (members_done ws slot h)))
+-- what comes next in a walk is a slot
+pub left_slot : (ws : List ℕ) (from slot : ℕ) (later : List ℕ) → members_from ws from (slot_count - from) ≡ slot ∷ later → slot < slot_count
+left_slot ws from slot later e = go (from_has ws from (slot_count - from) slot (rw e (inl refl))) (dec_lt from slot_count)
   where
-    go : drop at (listed (members ws)) ≡ [] → length (listed (members ws)) ≤ at
-    go e = let d = length-drop at (listed (members ws)) in let f = ap length e in omega (arith, d, f)
+    go : (slot < from + (slot_count - from)) × (has ws slot ≡ 1) → Dec (from < slot_count) → slot < slot_count
+    go h (yes l) = let q = h.0 in omega (arith, q)
+    go h (no l) = let z = members_done ws from (omega arith) in let d = ap length (sym e ∙ z) in absurd (omega (arith, d))
+
+-- a loop that lists the set ws into out: 2 * i bytes are written, and the slots of `now` are to come
+module _ (ws out out₀ : List ℕ) (i : ℕ) (now : List ℕ) (rest : drop (2 * i) (listed (members ws)) ≡ listed now)
+    (filled : out ≡ sets out₀ 0 (take (2 * i) (listed (members ws)))) where
+  pub list_end : now ≡ [] → out ≡ sets out₀ 0 (listed (members ws))
+  unfolding listed
+  list_end e = front_end out out₀ (listed (members ws)) (2 * i) filled (go (rest ∙ ap listed e))
+    where
+      go : drop (2 * i) (listed (members ws)) ≡ [] → length (listed (members ws)) ≤ 2 * i
+      go e = let d = length-drop (2 * i) (listed (members ws)) in let f = ap length e in omega (arith, d, f)
+
+  module _ (slot : ℕ) (later : List ℕ) (head : now ≡ slot ∷ later) where
+    ahead : drop (2 * i) (listed (members ws)) ≡ slot / 256 ∷ slot % 256 ∷ listed later
+    unfolding listed
+    ahead = rest ∙ ap listed head
+
+    pub list_room : 2 * i + 2 ≤ 2 * length (members ws)
+    list_room =
+        let e = ap length ahead in
+        omega (arith, e, length-drop (2 * i) (listed (members ws)), length_listed (members ws))
+
+    first : get_or (listed (members ws)) (2 * i) 0 ≡ slot / 256
+    first =
+        let z : 2 * i + 0 ≡ 2 * i = omega arith in
+        ap (λ (k : ℕ). get_or (listed (members ws)) k 0) (sym z) ∙ sym (get_or-drop (2 * i) (listed (members ws)) 0 0) ∙ ap (λ (r : List ℕ). get_or r 0 0) ahead
+
+    second : get_or (listed (members ws)) (2 * i + 1) 0 ≡ slot % 256
+    second = sym (get_or-drop (2 * i) (listed (members ws)) 1 0) ∙ ap (λ (r : List ℕ). get_or r 1 0) ahead
+
+    pub list_rest : drop (2 * (i + 1)) (listed (members ws)) ≡ listed later
+    list_rest =
+        let e : 2 * (i + 1) ≡ 2 * i + 2 = omega arith in
+        rw e (sym (drop-drop 2 (2 * i) (listed (members ws))) ∙ ap (drop 2) ahead)
+
+    pub list_turn : (k : ℕ) (two : List ℕ) → k ≡ 2 → two ≡ slot / 256 ∷ slot % 256 ∷ [] → 2 * length (members ws) ≤ length out
+        → put_mid (2 * i) k out two ≡ sets out₀ 0 (take (2 * (i + 1)) (listed (members ws)))
+    list_turn k two e f room =
+        let here = list_room in
+        let long = length_listed (members ws) in
+        let pair : List ℕ = slot / 256 ∷ slot % 256 ∷ [] in
+        let put = put_mid-paste (2 * i) k out two pair 2 f (sym e) refl in
+        let at = sets-eq pair out (2 * i) (omega (arith, here, room)) in
+        let one = front_turn out out₀ (listed (members ws)) (2 * i) (slot / 256) filled (omega (arith, here, long)) (sym first) in
+        let both = front_turn (set out (2 * i) (slot / 256)) out₀ (listed (members ws)) (2 * i + 1) (slot % 256) one (omega (arith, here, long)) (sym second) in
+        let z : 2 * i + 1 + 1 ≡ 2 * (i + 1) = omega arith in
+        put ∙ sym at ∙ (rw add-one at (rw z at both))

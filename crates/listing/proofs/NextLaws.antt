@@ -10,6 +10,7 @@ use native.Mathlib.Decide.{dec_lt}
 use native.Mathlib.Omega.{arith}
 use Rattle.laws.specs.Digits.{bit, bit_suc, bit_zero}
 use Rattle.slots.specs.Slots.{has, Next}
+use Rattle.laws.specs.Sizes.{slot_count}
 
 here_under : (k w d : ℕ) → (count_trailing_zeros k (w / 2) < k → bit (w / 2) (count_trailing_zeros k (w / 2)) ≡ 1) → w % 2 ≡ d
     → under d (count_trailing_zeros k (w / 2)) < suc k → bit w (under d (count_trailing_zeros k (w / 2))) ≡ 1
@@ -100,27 +101,37 @@ module _ (ws : List ℕ) (i s : ℕ) (h : s < 64) (fits : get_or ws i 0 < 2 ^ 64
       zero_bit j = rw (div-eq_of_lt (pow_pos j))
 
 -- a turn that finds the slot, and a turn that goes on to the next word
-module _ (ws : List ℕ) (from i s w z : ℕ) (l : i < 8) (h : s < 64) (e : w ≡ get_or ws i 0 / 2 ^ s) (fits : get_or ws i 0 < 2 ^ 64) (a : from ≤ i * 64 + s)
+module _ (ws : List ℕ) (from i s : ℕ) (l : i < 8) (h : s < 64) (fits : get_or ws i 0 < 2 ^ 64) (a : from ≤ i * 64 + s)
     (passed : (x : ℕ) → from ≤ x → x < i * 64 + s → has ws x ≡ 0) where
-  pub next_found : (w ≡ 0 → ⊥) → z ≡ count_trailing_zeros 64 w → Next ws from (i * 64 + s + z)
-  next_found n f =
-      let m : get_or ws i 0 / 2 ^ s ≡ 0 → ⊥ = λ q. n (e ∙ q) in
-      let g : z ≡ count_trailing_zeros 64 (get_or ws i 0 / 2 ^ s) = f ∙ ap (count_trailing_zeros 64) e in
-      let b = next_inside ws i s h fits m in
-      record {
-        above = λ q. omega arith;
-        most = omega arith;
-        member = λ q. rw g (next_member ws i s h fits m);
-        passed = λ x p q. go x p q m g (dec_lt x (i * 64 + s));
-      }
+  pub next_found : (get_or ws i 0 / 2 ^ s ≡ 0 → ⊥)
+      → (i * 64 + s + count_trailing_zeros 64 (get_or ws i 0 / 2 ^ s) < slot_count) × Next ws from (i * 64 + s + count_trailing_zeros 64 (get_or ws i 0 / 2 ^ s))
+  next_found n =
+      let b = next_inside ws i s h fits n in (
+        omega (arith, b),
+        record {
+          above = λ q. omega arith;
+          most = omega (arith, b);
+          member = λ q. next_member ws i s h fits n;
+          passed = λ x p q. go x p q (dec_lt x (i * 64 + s));
+        },
+      )
     where
-      go : (x : ℕ) → from ≤ x → x < i * 64 + s + z → (get_or ws i 0 / 2 ^ s ≡ 0 → ⊥) → z ≡ count_trailing_zeros 64 (get_or ws i 0 / 2 ^ s) → Dec (x < i * 64 + s) → has ws x ≡ 0
-      go x p q m g (yes d) = passed x p d
-      go x p q m g (no d) = next_below ws i s h fits m x (omega arith) (omega arith)
+      go : (x : ℕ) → from ≤ x → x < i * 64 + s + count_trailing_zeros 64 (get_or ws i 0 / 2 ^ s) → Dec (x < i * 64 + s) → has ws x ≡ 0
+      go x p q (yes d) = passed x p d
+      go x p q (no d) = next_below ws i s h fits n x (omega arith) q
 
-  pub next_pass : w ≡ 0 → (x : ℕ) → from ≤ x → x < (i + 1) * 64 + 0 → has ws x ≡ 0
+  pub next_pass : get_or ws i 0 / 2 ^ s ≡ 0 → (x : ℕ) → from ≤ x → x < (i + 1) * 64 + 0 → has ws x ≡ 0
   next_pass n x p q = go (dec_lt x (i * 64 + s))
     where
       go : Dec (x < i * 64 + s) → has ws x ≡ 0
       go (yes d) = passed x p d
-      go (no d) = next_none ws i s h fits (sym e ∙ n) x (omega arith) (omega arith)
+      go (no d) = next_none ws i s h fits n x (omega arith) (omega arith)
+
+-- where every word was passed
+pub next_over : (ws : List ℕ) (from i s : ℕ) → 8 ≤ i → ((x : ℕ) → from ≤ x → x < i * 64 + s → has ws x ≡ 0) → Next ws from slot_count
+next_over ws from i s h passed = record {
+  above = λ q. absurd (omega arith);
+  most = omega arith;
+  member = λ q. absurd (omega arith);
+  passed = λ x a b. passed x a (omega arith);
+}

@@ -2,68 +2,71 @@
 // and 'Numbers of refusal').
 #![tactic(auto)]
 
-ghost use Rattle.std.specs.Prelude.{◌≡◌, ◌*◌, ◌/◌, ◌^◌, ◌≤◌, ◌<◌, length};
-ghost use Rattle.std.specs.Int.Count.{ones, count_trailing_zeros};
+ghost use Rattle.std.specs.Prelude.{◌≡◌, ◌*◌, ◌≤◌, length};
+ghost use Rattle.std.specs.Iterator.{YieldsFirst, item_count};
 ghost use Rattle.std.proofs.lemmas.List.Edits.{sets};
-ghost use Rattle.slots.specs.Slots.{members, listed, listed_into, Next};
+ghost use Rattle.slots.specs.Slots.{members, listed, listed_into};
+ghost use Rattle.listing.specs.Following.{NextSlot, left};
 ghost use Rattle.laws.specs.Sizes.{slot_count};
 
-use laws::low;
 use slots::SlotSet;
 
-fn ones_of(w: u64) -> usize
-    ensures { (result ≡ ones w) × (result ≤ 64) × (w < 2 ^ 64) }
-{
-    u64::count_ones(w) as usize
+// A walk over the slots of a set, ascending.
+#[derive(Debug, Clone, Drop)]
+pub struct Ascending {
+    set: SlotSet,
+    from: usize,
 }
 
-fn zeros_of(w: u64) -> usize
-    ensures { (result ≡ count_trailing_zeros 64 w) × (result ≤ 64) }
-{
-    u64::trailing_zeros(w) as usize
+impl Iterator for Ascending {
+    type Item = usize;
+
+    ghost next_gives = { YieldsFirst left };
+
+    ghost remaining = { item_count left };
+
+    fn next(&mut self) -> Option<usize> {
+        let slot = next(self.set, self.from)?;
+        self.from = slot + 1;
+        Some(slot)
+    }
 }
 
-// The word from bit k on.
-fn from_bit(w: u64, k: usize) -> u64
-    requires { k < 64 }
-    ensures { (result ≡ w / 2 ^ k) × (w < 2 ^ 64) }
+// The slots, ascending.
+pub fn members(set: SlotSet) -> Ascending
+    ensures { left result ≡ members set.words }
 {
-    w >> k
+    Ascending { set, from: 0 }
 }
 
 // The number of slots.
 pub fn size(set: SlotSet) -> usize
     ensures { (result ≡ length (members set.words)) × (result ≤ slot_count) }
 {
-    let mut n: usize = 0;
-    let mut i: usize = 0;
-    while i < SlotSet::WORDS {
-        n += ones_of(set.words[i]);
-        i += 1;
-    }
-    n
+    set.words
+        .iter()
+        .map(|word| word.count_ones() as usize)
+        .sum()
 }
 
-// The least slot of the set at or after `from`, or 512.
-pub fn next(set: SlotSet, from: usize) -> usize
-    ensures { Next set.words from result }
+// The least slot of the set at or after `from`.
+pub fn next(set: SlotSet, from: usize) -> Option<usize>
+    ensures { NextSlot set.words from result }
 {
-    let mut i = from / 64;
     let mut skipped = from % 64;
-    while i < SlotSet::WORDS {
-        let w = from_bit(set.words[i], skipped);
-        if w != 0 {
-            return i * 64 + skipped + zeros_of(w);
+    for i in from / 64..SlotSet::WORDS {
+        let word = set.words[i] >> skipped;
+        if word != 0 {
+            return Some(i * 64 + skipped + word.trailing_zeros() as usize);
         }
         skipped = 0;
-        i += 1;
     }
-    SlotSet::CAPACITY
+    None
 }
 
-// The least slot of the set, or 512.
-pub fn least(set: SlotSet) -> usize
-    ensures { Next set.words 0 result }
+// The least slot of the set.
+pub fn least(set: SlotSet) -> Option<usize>
+    ensures { NextSlot set.words 0 result }
 {
     next(set, 0)
 }
@@ -73,13 +76,8 @@ fn write(set: SlotSet, out: &mut [u8])
     requires { 2 * length (members set.words) ≤ length out.old }
     ensures { out.new ≡ sets out.old 0 (listed (members set.words)) }
 {
-    let mut at: usize = 0;
-    let mut slot = next(set, 0);
-    while slot < SlotSet::CAPACITY {
-        out[at] = low(slot / 256);
-        out[at + 1] = low(slot % 256);
-        at += 2;
-        slot = next(set, slot + 1);
+    for (i, slot) in members(set).enumerate() {
+        out[2 * i..2 * i + 2].copy_from_slice(&(slot as u16).to_be_bytes());
     }
 }
 
@@ -89,9 +87,8 @@ pub fn list(set: SlotSet, out: &mut [u8]) -> usize
         × (out.new ≡ listed_into set.words out.old) }
 {
     let n = size(set);
-    if out.len() < 2 * n {
-        return n;
+    if 2 * n <= out.len() {
+        write(set, out);
     }
-    write(set, out);
     n
 }

@@ -202,7 +202,7 @@ from_ascends ws from (suc k) = go (ℕ_discrete (has ws from) 1) (from_ascends w
     go (yes e) ih = rw (eq-eqb (has ws from) 1 e) (omega arith, ih)
     go (no n) ih = rw (ne_eqb (has ws from) 1 n) (ascends_from from (suc from) (members_from ws (suc from) k) (omega arith) ih)
 
-from_has : (ws : List ℕ) (from k x : ℕ) → In x (members_from ws from k) → (x < from + k) × (has ws x ≡ 1)
+pub from_has : (ws : List ℕ) (from k x : ℕ) → In x (members_from ws from k) → (x < from + k) × (has ws x ≡ 1)
 unfolding members_from
 from_has ws from zero x i = absurd i
 from_has ws from (suc k) x i = go (ℕ_discrete (has ws from) 1) (from_has ws (suc from) k x) i

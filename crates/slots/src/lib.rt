@@ -6,7 +6,7 @@ ghost use Rattle.slots.specs.Slots.{has, inserted, removed};
 
 use laws::{SLOTS, USED};
 
-#[derive(Clone, Copy)]
+#[derive(Debug, Clone, Copy, PartialEq, Eq)]
 pub struct SlotSet {
     pub words: [u64; 8],
 }
@@ -16,19 +16,19 @@ impl SlotSet {
 
     pub const CAPACITY: usize = SLOTS;
 
-    pub fn empty() -> SlotSet
+    pub fn empty() -> Self
         ensures { result.words ≡ replicate 8 0 }
     {
-        SlotSet {
-            words: [0u64; Self::WORDS],
+        Self {
+            words: [0; Self::WORDS],
         }
     }
 
-    pub fn full() -> SlotSet
+    pub fn full() -> Self
         ensures { result.words ≡ replicate 8 0xffff_ffff_ffff_ffff }
     {
-        SlotSet {
-            words: [0xffff_ffff_ffff_ffffu64; Self::WORDS],
+        Self {
+            words: [u64::MAX; Self::WORDS],
         }
     }
 
@@ -36,38 +36,26 @@ impl SlotSet {
     pub fn contains(self, s: usize) -> bool
         ensures { result ≡ eqb (has self.words s) 1 }
     {
-        if Self::CAPACITY <= s {
-            return false;
-        }
-        let k = s / 64;
-        let w = self.words[k];
-        let b = w >> (s % 64);
-        b % 2 == 1
+        s < Self::CAPACITY && (self.words[s / 64] >> (s % 64)) % 2 == 1
     }
 
     // The set with slot s too; as it was for a number above 511.
-    pub fn insert(mut self, s: usize) -> SlotSet
+    pub fn insert(mut self, s: usize) -> Self
         ensures { result.words ≡ inserted self.words s }
     {
-        if Self::CAPACITY <= s {
-            return self;
+        if s < Self::CAPACITY {
+            self.words[s / 64] |= 1 << (s % 64);
         }
-        let k = s / 64;
-        let w = self.words[k];
-        self.words[k] = w | (1u64 << (s % 64));
         self
     }
 
     // The set without slot s.
-    pub fn remove(mut self, s: usize) -> SlotSet
+    pub fn remove(mut self, s: usize) -> Self
         ensures { result.words ≡ removed self.words s }
     {
-        if Self::CAPACITY <= s {
-            return self;
+        if s < Self::CAPACITY {
+            self.words[s / 64] &= !(1 << (s % 64));
         }
-        let k = s / 64;
-        let w = self.words[k];
-        self.words[k] = w ^ (w & (1u64 << (s % 64)));
         self
     }
 }

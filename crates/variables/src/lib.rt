@@ -7,34 +7,36 @@ ghost use Rattle.laws.specs.Sizes.{variable_base, variable_end, written_end};
 
 use laws::{VARIABLE, VARIABLE16};
 
-// A variable of a stored term, 0 to 31.
-#[derive(Clone, Copy)]
-pub struct StoredVariable(pub u8);
+// A variable of one side, 0 to 31, and how far it is moved where both sides appear in one written term.
+#[derive(Debug, Clone, Copy, PartialEq, Eq)]
+pub struct OwnVariable<const BANK: u8>(pub u8);
 
-// A variable of a question, 0 to 31.
-#[derive(Clone, Copy)]
-pub struct QuestionVariable(pub u8);
+// A variable of a stored term.
+pub type StoredVariable = OwnVariable<0>;
+
+// A variable of a question.
+pub type QuestionVariable = OwnVariable<32>;
 
 // A variable where both sides appear in one written term, 0 to 63.
-#[derive(Clone, Copy)]
+#[derive(Debug, Clone, Copy, PartialEq, Eq)]
 pub struct WrittenVariable(pub u8);
 
 // Whose variables a term has.
-#[derive(Clone, Copy)]
+#[derive(Debug, Clone, Copy, PartialEq, Eq)]
 pub enum Bank {
     Stored,
     Question,
 }
 
 // The variable that a written one stands for.
-#[derive(Clone, Copy)]
+#[derive(Debug, Clone, Copy, PartialEq, Eq)]
 pub enum Side {
     Stored(StoredVariable),
     Question(QuestionVariable),
 }
 
-impl StoredVariable {
-    // The variable of an item of a stored term.
+impl<const BANK: u8> OwnVariable<BANK> {
+    // The variable of an item of its side's terms.
     pub fn of_item(c: u16) -> Self
         requires { (variable_base ≤ c) × (c < variable_end) }
         ensures { OfItem 32 c result.0 }
@@ -42,30 +44,12 @@ impl StoredVariable {
         Self((c - VARIABLE16) as u8)
     }
 
-    // As written: the same number.
+    // As written: moved by its bank, so that the two sides are apart.
     pub fn written(self) -> WrittenVariable
-        requires { self.0 < 32 }
-        ensures { result.0 ≡ self.0 }
+        requires { (self.0 < 32) × (BANK ≤ 32) }
+        ensures { result.0 ≡ BANK + self.entry.0 }
     {
-        WrittenVariable(self.0)
-    }
-}
-
-impl QuestionVariable {
-    // The variable of an item of a question.
-    pub fn of_item(c: u16) -> Self
-        requires { (variable_base ≤ c) × (c < variable_end) }
-        ensures { OfItem 32 c result.0 }
-    {
-        Self((c - VARIABLE16) as u8)
-    }
-
-    // As written: apart from every stored variable.
-    pub fn written(self) -> WrittenVariable
-        requires { self.0 < 32 }
-        ensures { result.0 ≡ 32 + self.0 }
-    {
-        WrittenVariable(32 + self.0)
+        WrittenVariable(BANK + self.0)
     }
 }
 
@@ -82,14 +66,14 @@ impl WrittenVariable {
     pub fn index(self) -> usize
         ensures { result ≡ self.0 }
     {
-        self.0 as usize
+        usize::from(self.0)
     }
 
     // Its item.
     pub fn item(self) -> u16
         ensures { result ≡ variable_base + self.0 }
     {
-        VARIABLE16 + (self.0 as u16)
+        VARIABLE16 + u16::from(self.0)
     }
 
     // Back to the side that it comes from.
@@ -97,10 +81,10 @@ impl WrittenVariable {
         requires { self.0 < 64 }
         ensures { StandsFor self.0 result }
     {
-        let w = self.0;
-        if w < 32 {
-            return Side::Stored(StoredVariable(w));
+        if self.0 < 32 {
+            Side::Stored(OwnVariable(self.0))
+        } else {
+            Side::Question(OwnVariable(self.0 - 32))
         }
-        Side::Question(QuestionVariable(w - 32))
     }
 }

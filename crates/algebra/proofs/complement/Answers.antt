@@ -1,14 +1,13 @@
-use mathlib.Core.Path.{refl}
-use native.Mathlib.Omega.{arith}
-use lib.ListN.{length-set}
+use Prim.Native.Nat.{◌-◌, ◌^◌}
+use borrow.Author.Rules.{rules}
+use borrow.Author.Tests.{tests}
+use lib.ListN.{get_or}
 use Rattle.slots.specs.Slots.{others}
-use Rattle.slots.proofs.SlotLaws.{words_turn, words_end}
+use Rattle.slots.proofs.Made.{made8}
 use Rattle.algebra.proofs.complement.Goals as goal
-
-pub loop-i-preserved : goal.loop-i-preserved
-loop-i-preserved c = let l = c.loop-i in
-    (omega arith, simp length-set l.invariant.1, words_turn _ l.rest l.i _ (omega arith) l.invariant.1 refl l.invariant.2)
 
 pub returns : goal.returns
 unfolding others
-returns c = let l = c.loop-i in words_end _ l.rest l.i (omega arith) l.invariant.1 l.invariant.2
+returns c =
+    let us = c.args.set.words in
+    made8 _ (λ i. 2 ^ 64 - 1 - get_or us i 0) (λ x y q k. search (rules, tests)) c.from_fn.ensures.items

@@ -1,14 +1,16 @@
-use mathlib.Core.Path.{refl}
-use native.Mathlib.Omega.{arith}
-use Rattle.algebra.proofs.Together.{together, together_turn, together_all}
+use borrow.Author.Rules.{rules}
+use mathlib.Core.Path.{◌≡◌, ◌∙◌}
+use borrow.Author.Tests.{tests}
+use Rattle.std.proofs.lemmas.Iterator.{YieldsList-from_slice}
+use Rattle.std.proofs.lemmas.Iterator.Search.{all_from_yields_List}
+use lib.Dec.{eqb}
+use Rattle.std.specs.List.{list_all}
+use Rattle.algebra.proofs.Words.{none_all}
 use Rattle.algebra.proofs.is_empty.Goals as goal
 
-pub loop-i-init : goal.loop-i-init
-unfolding together
-loop-i-init c = (omega arith, omega arith, refl)
-
-pub loop-i-preserved : goal.loop-i-preserved
-loop-i-preserved c = let l = c.loop-i in (omega arith, omega arith, together_turn _ l.i _ l.invariant.0 l.invariant.2)
-
 pub returns : goal.returns
-returns c = let l = c.loop-i in together_all _ l.any l.i (omega arith) l.invariant.2
+returns c =
+    let ws = c.args.set.words in
+    let e : c.all.result ≡ list_all (λ w. eqb w 0) ws =
+    all_from_yields_List (λ w. eqb w 0) _ _ _ c.all.ensures.ran (YieldsList-from_slice ws cc) (λ x b q k. search (rules, tests)) in
+    e ∙ none_all ws (search rules)

@@ -1,14 +1,14 @@
-use mathlib.Core.Path.{refl}
-use native.Mathlib.Omega.{arith}
-use lib.ListN.{length-set}
+use borrow.Author.Rules.{rules}
+use borrow.Author.Tests.{tests}
+use lib.Bits.{bit_or}
+use lib.ListN.{get_or}
 use Rattle.slots.specs.Slots.{either}
-use Rattle.slots.proofs.SlotLaws.{words_turn, words_end}
+use Rattle.slots.proofs.Made.{made8}
 use Rattle.algebra.proofs.or.Goals as goal
-
-pub loop-i-preserved : goal.loop-i-preserved
-loop-i-preserved c = let l = c.loop-i in
-    (omega arith, simp length-set l.invariant.1, words_turn _ l.out l.i _ (omega arith) l.invariant.1 refl l.invariant.2)
 
 pub returns : goal.returns
 unfolding either
-returns c = let l = c.loop-i in words_end _ l.out l.i (omega arith) l.invariant.1 l.invariant.2
+returns c =
+    let us = c.args.set.words in
+    let vs = c.args.other.words in
+    made8 _ (λ i. bit_or (get_or us i 0) (get_or vs i 0)) (λ x y q k. search (rules, tests)) c.from_fn.ensures.items

@@ -1,22 +1,31 @@
 use mathlib.Core.Path.{◌≡◌, sym}
+use mathlib.Core.Logic.{◌⊎◌}
 use native.Mathlib.Omega.{arith}
-use Rattle.variables.specs.declared.Bank.TheVariants.{Stored, Question}
+use borrow.Author.Rules.{rules}
+use borrow.Author.Tests.{tests}
+use Rattle.std.proofs.Common.{⊎_elim}
+use Prim.Native.Nat.{◌+◌, ◌≤◌, ◌<◌}
+use Rattle.laws.specs.Sizes.{variable_base, variable_end}
 use Rattle.variables.specs.Banks.{bank_of}
 use Rattle.items.specs.Decoding.{as_symbol, as_variable, as_other}
 use Rattle.items.proofs.code.Goals as goal
 
-pub returns-then-c-lt-VARIABLE16 : goal.returns-then-c-lt-VARIABLE16
-returns-then-c-lt-VARIABLE16 c = let a = c.args in sym (as_symbol (bank_of a.bank) a.c c.if-c-lt-VARIABLE16.true)
-
-pub returns-then-c-ge-VARIABLE_END16 : goal.returns-then-c-ge-VARIABLE_END16
-returns-then-c-ge-VARIABLE_END16 c = let a = c.args in sym (as_other (bank_of a.bank) a.c c.if-c-ge-VARIABLE_END16.true)
+pub returns-then-not-contains : goal.returns-then-not-contains
+returns-then-not-contains c =
+    let a = c.args in
+    let d : (a.c < variable_base) ⊎ (variable_end ≤ a.c) = search (rules, tests) in
+    ⊎_elim (λ h. sym (as_symbol (bank_of a.bank) a.c h)) (λ h. sym (as_other (bank_of a.bank) a.c h)) d
 
 pub returns-in-Stored : goal.returns-in-Stored
 returns-in-Stored c = let a = c.args in
-    let e : a.bank ≡ Stored = c.in-Stored.is in
-    rw e (omega (arith, as_variable 0 a.c c.if-c-lt-VARIABLE16.false c.if-c-ge-VARIABLE_END16.false, c.of_item.ensures.1, c.written.ensures, c.item.ensures))
+    let o = c.of_item.ensures in
+    let v = as_variable 0 a.c (omega (arith, o)) (omega (arith, o)) in
+    let w : c.written.result.0 ≡ 0 + c.of_item.result.0 = c.written.ensures in
+    rw c.in-Stored.is (omega (arith, v, o, w, c.item.ensures))
 
 pub returns-in-Question : goal.returns-in-Question
 returns-in-Question c = let a = c.args in
-    let e : a.bank ≡ Question = c.in-Question.is in
-    rw e (omega (arith, as_variable 32 a.c c.if-c-lt-VARIABLE16.false c.if-c-ge-VARIABLE_END16.false, c.of_item-in-Question.ensures.1, c.written-in-Question.ensures, c.item-in-Question.ensures))
+    let o = c.of_item-in-Question.ensures in
+    let v = as_variable 32 a.c (omega (arith, o)) (omega (arith, o)) in
+    let w : c.written-in-Question.result.0 ≡ 32 + c.of_item-in-Question.result.0 = c.written-in-Question.ensures in
+    rw c.in-Question.is (omega (arith, v, o, w, c.item-in-Question.ensures))

@@ -6,6 +6,6 @@ pub returns-then-x-sig : goal.returns-then-x-sig
 unfolding end_good
 returns-then-x-sig c = simp (lt-ltb _ _ c.if-x-sig.true)
 
-pub returns : goal.returns
+pub returns-else-x-sig : goal.returns-else-x-sig
 unfolding end_good
-returns c = simp (le-ltb _ _ c.if-x-sig.false)
+returns-else-x-sig c = simp (le-ltb _ _ c.if-x-sig.false)

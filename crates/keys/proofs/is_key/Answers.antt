@@ -1,40 +1,43 @@
-use Prim.Native.Nat.{◌+◌, ◌*◌}
-use mathlib.Core.Path.{◌≡◌, sym, ap, ◌∙◌}
-use mathlib.Core.Bool.{true, false}
 use native.Mathlib.Omega.{arith}
-use borrow.Author.Tests.{lt-ltb, le-ltb}
-use lib.ListN.{get_or, length, length-drop}
-use Rattle.laws.proofs.Lists.{tail_part}
-use Rattle.keys.specs.Bytes.{is_key, step_good, end_good}
-use Rattle.keys.proofs.KeyLaws.{steps_more, steps_end, steps_short}
+use mathlib.Core.Path.{◌≡◌, sym, ap, ◌∙◌}
+use borrow.Author.Rules.{rules}
+use borrow.Author.Tests.{tests, lt-ltb, le-ltb}
+use lib.ListN.{length}
+use Rattle.std.specs.List.{list_all}
+use Rattle.std.proofs.lemmas.Iterator.Search.{all_from_yields_List}
+use Rattle.keys.specs.Bytes.{is_key, end_good}
+use Rattle.keys.proofs.KeyLaws.{good_step, threes, after_is, steps_walk, bad_end, bad_step, good_steps}
 use Rattle.keys.proofs.is_key.Goals as goal
 
-pub returns-then-key-gt95 : goal.returns-then-key-gt95
+pub returns-then-key-gt-LONGEST : goal.returns-then-key-gt-LONGEST
 unfolding is_key
-returns-then-key-gt95 c = simp (lt-ltb _ _ c.if-key-gt95.true)
+returns-then-key-gt-LONGEST c = simp (lt-ltb 95 (length c.args.key.now) (omega arith))
 
-pub returns-then-not-step_good : goal.returns-then-not-step_good
+pub returns-then-end-ne2 : goal.returns-then-end-ne2
 unfolding is_key
-returns-then-not-step_good c = let l = c.loop-rest in
-    let d : step_good c.args.sig.now (get_or l.rest.now 0 0 * 256 + get_or l.rest.now 1 0) (get_or l.rest.now 2 0) ≡ false = sym c.step_good.ensures ∙ c.if-not-step_good.true in
-    let s = rw d at (steps_more c.args.sig.now l.rest.now c.loop-rest-test.true) in
-    simp (le-ltb _ _ c.if-key-gt95.false) (sym (l.invariant ∙ s))
+returns-then-end-ne2 c =
+    let k = c.args.key.now in
+    let e = c.remainder-end.ensures ∙ c.chunks_exact-steps.ensures.remainder ∙ after_is k in
+    simp (le-ltb 95 (length k) (omega arith)) (sym (bad_end c.args.sig.now k c.remainder-end.result.now e c.if-end-ne2.true))
 
-pub loop-rest-smaller : goal.loop-rest-smaller
-loop-rest-smaller c = let l = c.loop-rest in rw tail_part (omega (arith, length-drop 3 l.rest.now))
-
-pub loop-rest-preserved : goal.loop-rest-preserved
-loop-rest-preserved c = let l = c.loop-rest in
-    let d : step_good c.args.sig.now (get_or l.rest.now 0 0 * 256 + get_or l.rest.now 1 0) (get_or l.rest.now 2 0) ≡ true = sym c.step_good.ensures ∙ c.if-not-step_good.false in
-    let s = rw d at (steps_more c.args.sig.now l.rest.now c.loop-rest-test.true) in
-    rw tail_part (l.invariant ∙ s)
-
-pub returns-then-rest-ne2 : goal.returns-then-rest-ne2
+pub returns-then-all : goal.returns-then-all
 unfolding is_key
-returns-then-rest-ne2 c = let l = c.loop-rest in simp (le-ltb _ _ c.if-key-gt95.false) (sym (l.invariant ∙ steps_short _ l.rest.now (omega arith) c.if-rest-ne2.true))
+returns-then-all c =
+    let k = c.args.key.now in
+    let sig = c.args.sig.now in
+    let e = c.remainder-end.ensures ∙ c.chunks_exact-steps.ensures.remainder ∙ after_is k in
+    let walk = steps_walk c.chunks_exact-steps.result k c.chunks_exact-steps.ensures.size c.chunks_exact-steps.ensures.rest in
+    let a : c.all.result ≡ list_all (good_step sig) (threes k) =
+    all_from_yields_List (good_step sig) _ _ c.all.result c.all.ensures.ran walk (λ x b q m. search (rules, tests)) in
+    let g = good_steps sig k c.remainder-end.result.now e c.if-end-ne2.false (sym a ∙ c.if-all.true) in
+    simp (le-ltb 95 (length k) (omega arith)) (c.end_good.ensures ∙ ap (end_good sig) c.number_at.ensures.0 ∙ sym g)
 
-pub returns : goal.returns
+pub returns-else-all : goal.returns-else-all
 unfolding is_key
-returns c = let l = c.loop-rest in
-    let e = c.end_good.ensures ∙ ap (end_good _) c.number_at.ensures.0 in
-    simp (le-ltb 95 (length c.args.key.now) (omega arith)) (e ∙ sym (l.invariant ∙ steps_end _ l.rest.now c.if-rest-ne2.false))
+returns-else-all c =
+    let k = c.args.key.now in
+    let sig = c.args.sig.now in
+    let walk = steps_walk c.chunks_exact-steps.result k c.chunks_exact-steps.ensures.size c.chunks_exact-steps.ensures.rest in
+    let a : c.all.result ≡ list_all (good_step sig) (threes k) =
+    all_from_yields_List (good_step sig) _ _ c.all.result c.all.ensures.ran walk (λ x b q m. search (rules, tests)) in
+    simp (le-ltb 95 (length k) (omega arith)) (c.if-all.false ∙ sym (bad_step sig k (sym a ∙ c.if-all.false)))

@@ -1,16 +1,18 @@
-use native.Mathlib.Omega.{arith}
-use borrow.Author.Tests.{lt-ltb, le-ltb, eq-eqb, ne_eqb}
+use borrow.Author.Rules.{rules}
+use borrow.Author.Tests.{tests, lt-ltb, le-ltb}
+use lib.ListN.{get_or}
+use Rattle.terms.specs.Terms.{arity}
 use Rattle.keys.specs.Bytes.{step_good}
+use Rattle.keys.proofs.KeyLaws.{inside}
 use Rattle.keys.proofs.step_good.Goals as goal
 
-pub returns-then-sig-f : goal.returns-then-sig-f
+pub returns-then-f-sig : goal.returns-then-f-sig
 unfolding step_good
-returns-then-sig-f c = rw (← c.number_at-f.ensures.0) (simp (le-ltb _ _ c.if-sig-f.true))
+returns-then-f-sig c =
+    let e = inside (get_or c.args.key.now 2 0) (arity c.args.sig.now c.number_at-f.result) c.contains.result
+    (λ e. (search (rules, tests), search (rules, tests))) (λ e. search (rules, tests)) in
+    rw (← c.number_at-f.ensures.0) (simp (lt-ltb _ _ c.if-f-sig.true) e)
 
-pub returns-then-i-eq0 : goal.returns-then-i-eq0
+pub returns-else-f-sig : goal.returns-else-f-sig
 unfolding step_good
-returns-then-i-eq0 c = rw (← c.number_at-f.ensures.0, ← c.wide-i.ensures.0) (simp (lt-ltb _ _ c.if-sig-f.false, eq-eqb _ _ c.if-i-eq0.true))
-
-pub returns : goal.returns
-unfolding step_good
-returns c = rw (← c.number_at-f.ensures.0, ← c.wide-i.ensures.0, ← c.arity.ensures.0) (simp (lt-ltb _ _ c.if-sig-f.false, ne_eqb c.wide-i.result 0 (λ z. omega (arith, z))))
+returns-else-f-sig c = rw (← c.number_at-f.ensures.0) (simp (le-ltb _ _ c.if-f-sig.false))

@@ -1,15 +1,27 @@
-use mathlib.Core.Path.{sym, ◌∙◌}
+use Rattle.std.proofs.Common.{rules, tests}
+use mathlib.Core.Path.{◌≡◌, ◌∙◌}
+use lib.Count.{ones}
+use lib.ListN.{length}
 use native.Mathlib.Omega.{arith}
-use Rattle.listing.proofs.Listing.{tally_ones, size_start, size_end}
+use Rattle.std.specs.List.{sum_by}
+use Rattle.std.proofs.lemmas.Iterator.{YieldsList-from_slice, YieldsList-from_map}
+use Rattle.std.proofs.lemmas.Iterator.Consumers.{YieldsList-at, sum_by_from_yields_List, fits_by_from_yields_list}
+use Rattle.slots.specs.Slots.{members}
+use Rattle.listing.proofs.Listing.{size_words, size_most}
 use Rattle.listing.proofs.size.Goals as goal
 
-pub loop-i-init : goal.loop-i-init
-loop-i-init c = (omega arith, omega arith, sym (size_start c.args.set.words))
-
-pub loop-i-preserved : goal.loop-i-preserved
-loop-i-preserved c = let l = c.loop-i in
-    let e = c.ones_of-n.ensures in
-    (omega arith, omega arith, omega (arith, tally_ones c.args.set.words l.i e.2, l.invariant.2, e.0))
+pub sum-requires-clause-fits : goal.sum-requires-clause-fits
+sum-requires-clause-fits c =
+    let ws = c.args.set.words in
+    let e : sum_by ones ws ≡ length (members ws) = size_words ws (search rules) (λ k. search rules) in
+    fits_by_from_yields_list ones _ c.map.result _
+    (YieldsList-from_map _ ones (YieldsList-at c.map.ensures.source (YieldsList-from_slice ws cc)) c.map.ensures.closure (λ x r q k. search (rules, tests)))
+    (omega (arith, e, size_most ws))
 
 pub returns : goal.returns
-returns c = let l = c.loop-i in (l.invariant.2 ∙ size_end c.args.set.words l.i (omega arith), omega arith)
+returns c =
+    let ws = c.args.set.words in
+    let e : sum_by ones ws ≡ length (members ws) = size_words ws (search rules) (λ k. search rules) in
+    let f : c.sum.result ≡ length (members ws) = sum_by_from_yields_List ones _ c.map.result _ c.sum.ensures.ran
+    (YieldsList-from_map _ ones (YieldsList-at c.map.ensures.source (YieldsList-from_slice ws cc)) c.map.ensures.closure (λ x r q k. search (rules, tests))) ∙ e in
+    (f, omega (arith, f, size_most ws))

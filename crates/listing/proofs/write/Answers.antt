@@ -1,40 +1,29 @@
+use Prim.Native.Nat.{ℕ, ◌+◌, ◌-◌, ◌*◌, ◌/◌, ◌%◌, ◌<◌, ◌≤◌}
+use mathlib.Core.Path.{◌≡◌, ap, ◌∙◌}
+use mathlib.Core.List.{[], ◌∷◌}
 use native.Mathlib.Omega.{arith}
-use lib.ListN.{length-set}
-use Rattle.slots.specs.Slots.{members, next_above}
-use Rattle.listing.proofs.Listing.{list_start, list_room, list_turn, list_end, length_listed}
+use lib.ListN.{length}
+use Rattle.laws.specs.Sizes.{slot_count}
+use Rattle.slots.specs.Slots.{members}
+use Rattle.listing.proofs.Listing.{left_slot, list_rest, list_turn, list_end}
 use Rattle.listing.proofs.write.Goals as goal
 
-pub loop-slot-init : goal.loop-slot-init
-loop-slot-init c = list_start _ _ _ c.next-slot.ensures
+pub overflow_cast-slot : goal.overflow_cast-slot
+overflow_cast-slot c = let b = left_slot _ _ _ _ c.in-Some.ensures.steps.0 in omega (arith, b)
 
-pub bounds-out-at : goal.bounds-out-at
-bounds-out-at c = let l = c.loop-slot in
-    let r = list_room _ _ _ _ _ l.invariant c.loop-slot-test.true in
-    omega (arith, r, l.invariant.same, length_listed (members c.args.set.words), c.requires)
-
-pub overflow_add-out : goal.overflow_add-out
-overflow_add-out c = let l = c.loop-slot in
-    let r = list_room _ _ _ _ _ l.invariant c.loop-slot-test.true in
-    omega (arith, r, l.invariant.same, length_listed (members c.args.set.words), c.requires, c.well_formed)
-
-pub bounds-out-at-in-loop-slot : goal.bounds-out-at-in-loop-slot
-bounds-out-at-in-loop-slot c = let l = c.loop-slot in
-    let r = list_room _ _ _ _ _ l.invariant c.loop-slot-test.true in
-    simp length-set (omega (arith, r, l.invariant.same, length_listed (members c.args.set.words), c.requires))
-
-pub overflow_add-at : goal.overflow_add-at
-overflow_add-at c = let l = c.loop-slot in
-    let r = list_room _ _ _ _ _ l.invariant c.loop-slot-test.true in
-    omega (arith, r, l.invariant.same, length_listed (members c.args.set.words), c.requires, c.well_formed)
-
-pub loop-slot-smaller : goal.loop-slot-smaller
-loop-slot-smaller c = omega (arith, next_above _ _ _ c.next-slot-in-loop-slot.ensures (omega arith))
-
-pub loop-slot-preserved : goal.loop-slot-preserved
-loop-slot-preserved c = list_turn _ _ _ _ _ c.loop-slot.invariant c.loop-slot-test.true _ _ _ c.low.ensures c.low-in-loop-slot.ensures c.next-slot-in-loop-slot.ensures
-
-pub shape_of-out : goal.shape_of-out
-shape_of-out c = c.loop-slot.invariant.same
+pub loop-i-preserved : goal.loop-i-preserved
+loop-i-preserved c =
+    let l = c.loop-i in
+    let s = c.in-Some.ensures.steps in
+    let slot : ℕ = c.in-Some.slot in
+    let b : slot < slot_count = left_slot _ _ _ _ s.0 in
+    let h : slot / 256 % 256 ≡ slot / 256 = omega (arith, b) in
+    let two : c.copy_from_slice.new.self ≡ slot / 256 ∷ slot % 256 ∷ [] =
+    c.copy_from_slice.ensures.after ∙ c.to_be_bytes.ensures ∙ ap (λ (x : ℕ). x ∷ slot % 256 ∷ []) h in
+    let g : 2 * l.i-iterator.count + 2 - 2 * l.i-iterator.count ≡ 2 = omega arith in
+    let room : 2 * length (members c.args.set.words) ≤ length l.out = omega (arith, c.requires, l.auto.out) in
+    rw (s.2, s.1)
+    (list_rest _ _ _ _ _ l.invariant.0 l.invariant.1 _ _ s.0, list_turn _ _ _ _ _ l.invariant.0 l.invariant.1 _ _ s.0 _ _ g two room)
 
 pub returns : goal.returns
-returns c = list_end _ _ _ _ _ c.loop-slot.invariant (omega arith)
+returns c = let l = c.loop-i in list_end _ _ _ _ _ l.invariant.0 l.invariant.1 c.in-None.ensures.steps.0.0

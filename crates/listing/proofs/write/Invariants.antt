@@ -1,10 +1,12 @@
-use Prim.Native.Nat.{◌-◌}
-use Rattle.listing.proofs.Listing.{Listing}
-use Rattle.laws.specs.Sizes.{slot_count}
+use Prim.Native.Nat.{◌*◌}
+use mathlib.Core.Path.{◌≡◌}
+use lib.ListN.{take, drop}
+use lib.Seq.{sets}
+use Rattle.slots.specs.Slots.{members, listed}
+use Rattle.listing.specs.Following.{left}
 use Rattle.listing.proofs.write.Given as goal
 
-abbrev pub invariant-loop-slot : goal.invariant-loop-slot
-invariant-loop-slot l = Listing l.set.words l.out l.initial.out l.at l.slot
-
-abbrev pub decreases-loop-slot : goal.decreases-loop-slot
-decreases-loop-slot l = slot_count - l.slot
+abbrev pub invariant-loop-i : goal.invariant-loop-i
+invariant-loop-i l =
+    (drop (2 * l.i-iterator.count) (listed (members l.fn.set.words)) ≡ listed (left l.i-iterator.iter))
+    × (l.out ≡ sets l.initial.out 0 (take (2 * l.i-iterator.count) (listed (members l.fn.set.words))))

@@ -7,9 +7,9 @@ use Rattle.slots.specs.Sets.{insert_beyond}
 use borrow.Author.Rules.{rules}
 use Rattle.slots.proofs.SlotSet.insert.Goals as goal
 
-pub returns-then-s-ge-CAPACITY : goal.returns-then-s-ge-CAPACITY
-returns-then-s-ge-CAPACITY c = sym (insert_beyond c.args.self.words c.args.s (search rules) c.if-s-ge-CAPACITY.true)
-
-pub returns : goal.returns
+pub returns-then-s-lt-CAPACITY : goal.returns-then-s-lt-CAPACITY
 unfolding inserted
-returns c = rw (one_shl (c.args.s % 64) (omega arith))
+returns-then-s-lt-CAPACITY c = rw (one_shl (c.args.s % 64) (omega arith))
+
+pub returns-else-s-lt-CAPACITY : goal.returns-else-s-lt-CAPACITY
+returns-else-s-lt-CAPACITY c = sym (insert_beyond c.args.self.words c.args.s (search rules) c.if-s-lt-CAPACITY.false)
