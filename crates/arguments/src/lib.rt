@@ -8,24 +8,19 @@ ghost use Rattle.terms.specs.Places.{part_place};
 
 use checking::{check, walk};
 use laws::number_at;
-use refusals::{Checked, Refusal};
+use refusals::{Refusal, checked_number};
 use terms::arity;
 
 // Refusals 5 to 8 and 10, or none, for argument i of the term.
-pub fn check_argument(sig: &[u8], t: &[u8], i: usize) -> Checked
+#[tactic(auto, unfolding(terms::specs::Terms::arg_refusal))]
+pub fn check_argument(sig: &[u8], t: &[u8], i: usize) -> Result<(), Refusal>
     ensures { checked_number result ≡ arg_refusal sig.now t.now i }
 {
-    let checked = check(sig, t);
-    if checked.number() != 0 {
-        return checked;
+    check(sig, t)?;
+    if i == 0 || arity(sig, number_at(t, 0)) < i {
+        return Err(Refusal::Argument);
     }
-    if i == 0 {
-        return Checked::Refused(Refusal::Argument);
-    }
-    if arity(sig, number_at(t, 0)) < i {
-        return Checked::Refused(Refusal::Argument);
-    }
-    Checked::Good
+    Ok(())
 }
 
 // Where the argument after the first `k` starts.
@@ -34,42 +29,40 @@ fn arg_at(sig: &[u8], t: &[u8], k: usize) -> usize
     requires k_in_bounds { 2 + span sig.now (drop 2 t.now) k ≤ length t.now }
     ensures { result ≡ 2 + span sig.now (drop 2 t.now) k }
 {
-    let mut used: usize = 2;
-    let mut i: usize = 0;
-    while i < k {
-        used += walk(sig, &t[used..], 32);
-        i += 1;
+    let mut used = 2;
+    for _argument in 0..k {
+        used += walk(sig, &t[used..], 32).unwrap();
     }
     used
 }
 
-// The number of the refusal of argument i, or 0.
+// The number of the refusal of argument i, or 0: a number, since its two wrong programs and its clause name it.
 pub fn argument_refusal(sig: &[u8], t: &[u8], i: usize) -> u8
     ensures { result ≡ arg_refusal sig.now t.now i }
 {
-    check_argument(sig, t, i).number()
+    checked_number(check_argument(sig, t, i))
 }
 
-// Where argument i starts within `t`; 0 where check_argument refuses.
+// Where argument i starts within `t`; 0, and no Option, where check_argument refuses, as `arg_start` says.
 pub fn argument_start(sig: &[u8], t: &[u8], i: usize) -> usize
     ensures { result ≡ arg_start sig.now t.now i }
 {
-    if argument_refusal(sig, t, i) != 0 {
+    if check_argument(sig, t, i).is_err() {
         return 0;
     }
     arg_at(sig, t, i - 1)
 }
 
-// Argument i as the part of `t` where it stands; the empty part at its start where check_argument refuses.
+// Argument i as the part of `t` where it stands; where check_argument refuses the empty part at its start, and no
+// Option: the clause says which place that is.
 pub fn argument<'a>(sig: &[u8], t: &'a [u8], i: usize) -> &'a [u8]
     ensures { (result.now ≡ arg_bytes sig.now t.now i)
         × (result.ref_ptr ≡ part_place t.entry.ref_ptr (arg_start sig.now t.now i)) }
 {
-    if argument_refusal(sig, t, i) != 0 {
+    if check_argument(sig, t, i).is_err() {
         return &t[0..0];
     }
     let from = arg_at(sig, t, i - 1);
-    let n = walk(sig, &t[from..], 32);
-    let to = from + n;
+    let to = from + walk(sig, &t[from..], 32).unwrap();
     &t[from..to]
 }

@@ -1,12 +1,10 @@
 -- SCOPE.md, 'Numbers of refusal': none is 0, and each names one refusal. A new name has its place in `names` and its
 -- line in `back`.
-use Rattle.std.specs.Prelude.{ℕ, ◌≡◌, refl, Bool, true, false, List, [], ◌∷◌, ltb, eqb}
+use Rattle.std.specs.Prelude.{ℕ, ◌≡◌, refl, Bool, true, false, List, [], ◌∷◌, ltb, eqb, Ok, Err, is_err}
 use Rattle.std.proofs.Common.{sym, ap, ◌∙◌, arith, ltb-true}
 use Rattle.laws.specs.Choice.{pick}
 use Rattle.refusals.specs.declared.Refusal.{Refusal}
-use Rattle.refusals.specs.declared.Checked.{Checked}
-use Rattle.refusals.specs.declared.Checked.TheVariants.{Good, Refused}
-use Rattle.refusals.specs.Refusals.{number_of, checked_number}
+use Rattle.refusals.specs.Refusals.{Checked, number_of, checked_number}
 
 abbrev pub names : List Refusal
 names =
@@ -67,7 +65,16 @@ number_some w h = omega (arith, ltb-true 0 (number_of w) (every (λ v. ltb 0 (nu
 
 -- what a check answers is told by its number: two answers that a check may give are one
 pub checked_one : (n : ℕ) (a b : Checked) → checked_number a ≡ n → checked_number b ≡ n → a ≡ b
-checked_one n Good Good e f = refl
-checked_one n Good (Refused v) e f = absurd (number_some v (f ∙ sym e))
-checked_one n (Refused w) Good e f = absurd (number_some w (e ∙ sym f))
-checked_one n (Refused w) (Refused v) e f = ap (λ z. Refused z) (number_one w v (e ∙ sym f))
+checked_one n (Ok _) (Ok _) e f = refl
+checked_one n (Ok _) (Err v) e f = absurd (number_some v (f ∙ sym e))
+checked_one n (Err w) (Ok _) e f = absurd (number_some w (e ∙ sym f))
+checked_one n (Err w) (Err v) e f = ap (λ z. Err z) (number_one w v (e ∙ sym f))
+
+-- a check that refuses has a number, and one that does not has none
+pub err_refused : (k : Checked) (n : ℕ) → checked_number k ≡ n → is_err k ≡ true → n ≡ 0 → ⊥
+err_refused (Ok _) n e f z = absurd (let y : ◌≡◌ {A = Bool} false true = f in cc)
+err_refused (Err w) n e f z = number_some w (e ∙ z)
+
+pub ok_taken : (k : Checked) (n : ℕ) → checked_number k ≡ n → is_err k ≡ false → n ≡ 0
+ok_taken (Ok _) n e f = sym e
+ok_taken (Err w) n e f = absurd (let y : ◌≡◌ {A = Bool} true false = f in cc)

@@ -1,9 +1,7 @@
 -- SCOPE.md, 'Numbers of refusal': the number of each refusal, and of what a check answers; the rank of each number.
-use Rattle.std.specs.Prelude.{ℕ, suc, List, [], ◌∷◌, eqb}
+use Rattle.std.specs.Prelude.{ℕ, suc, List, [], ◌∷◌, eqb, Result, Ok, Err, ⊤}
 use Rattle.laws.specs.Choice.{pick}
 use Rattle.refusals.specs.declared.Refusal.{Refusal}
-use Rattle.refusals.specs.declared.Checked.{Checked}
-use Rattle.refusals.specs.declared.Checked.TheVariants.{Good, Refused}
 
 abbrev pub number_of : Refusal → ℕ
 number_of Refusal.Table = 1
@@ -23,10 +21,14 @@ number_of Refusal.Long = 14
 number_of Refusal.Room = 15
 number_of Refusal.Log = 16
 
+-- what a check answers: nothing, or why it refuses
+abbrev pub Checked : Type 0
+Checked = Result ⊤ Refusal
+
 -- 0 for what is not refused
 abbrev pub checked_number : Checked → ℕ
-checked_number Good = 0
-checked_number (Refused why) = number_of why
+checked_number (Ok _) = 0
+checked_number (Err why) = number_of why
 
 -- 'of the refusals that apply, the first in rank is given': all numbers, the first in rank first
 abbrev pub order : List ℕ

@@ -4,25 +4,25 @@
 ghost use Rattle.std.specs.Prelude.{◌≡◌};
 ghost use Rattle.refusals.specs.Refusals.{number_of, checked_number};
 
-// Why a call is refused, in the order of SCOPE.md's numbers.
-#[derive(Clone, Copy)]
+// Why a call is refused, with SCOPE.md's numbers.
+#[derive(Clone, Copy, Debug, PartialEq, Eq)]
 pub enum Refusal {
-    Table,
-    Signature,
-    Relation,
-    Slot,
-    Size,
-    Odd,
-    Symbol,
-    Shape,
-    Key,
-    Argument,
-    Full,
-    Keys,
-    Nothing,
-    Long,
-    Room,
-    Log,
+    Table = 1,
+    Signature = 2,
+    Relation = 3,
+    Slot = 4,
+    Size = 5,
+    Odd = 6,
+    Symbol = 7,
+    Shape = 8,
+    Key = 9,
+    Argument = 10,
+    Full = 11,
+    Keys = 12,
+    Nothing = 13,
+    Long = 14,
+    Room = 15,
+    Log = 16,
 }
 
 impl Refusal {
@@ -30,42 +30,19 @@ impl Refusal {
     pub fn number(self) -> u8
         ensures { result ≡ number_of self }
     {
-        match self {
-            Refusal::Table => 1,
-            Refusal::Signature => 2,
-            Refusal::Relation => 3,
-            Refusal::Slot => 4,
-            Refusal::Size => 5,
-            Refusal::Odd => 6,
-            Refusal::Symbol => 7,
-            Refusal::Shape => 8,
-            Refusal::Key => 9,
-            Refusal::Argument => 10,
-            Refusal::Full => 11,
-            Refusal::Keys => 12,
-            Refusal::Nothing => 13,
-            Refusal::Long => 14,
-            Refusal::Room => 15,
-            Refusal::Log => 16,
-        }
+        self as u8
     }
 }
 
 // What a check answers.
-#[derive(Clone, Copy)]
-pub enum Checked {
-    Good,
-    Refused(Refusal),
-}
+pub type Checked = Result<(), Refusal>;
 
-impl Checked {
-    // 0, or the number of the refusal.
-    pub fn number(self) -> u8
-        ensures { result ≡ checked_number self }
-    {
-        match self {
-            Checked::Good => 0,
-            Checked::Refused(why) => why.number(),
-        }
+// 0, or the number of the refusal.
+pub fn checked_number(checked: Checked) -> u8
+    ensures { result ≡ checked_number checked }
+{
+    match checked {
+        Ok(()) => 0,
+        Err(why) => why.number(),
     }
 }

@@ -5,17 +5,17 @@ use mathlib.Core.List.{List, [], ◌∷◌}
 use lib.ListN.{length, get_or, take, drop, length-drop, drop_of_length-le, get_or-eq_default}
 use lib.Seq.{drop-nil, drop-drop}
 use native.Mathlib.Nat.{add_assoc, zero-add, suc-add}
-use native.Mathlib.Numerals.{add-one}
 use native.Mathlib.Omega.{arith}
 use Rattle.terms.specs.Terms.{numbers, span, declared, items_good, arities_good, sig_refusal, Signed, refusal, first_item, arg_refusal, item_at}
 use Rattle.laws.specs.Choice.{pick}
 use Rattle.laws.proofs.Lists.{tail_part}
-use mathlib.Core.Bool.{Bool, true, false}
+use mathlib.Core.Bool.{Bool, true, false, ◌&&◌}
+use Rattle.std.specs.Prelude.{Ok, Option, Some, None, unwrap_or, IsSome}
+use Rattle.std.proofs.Common.{rules}
 use lib.Dec.{ltb, leb, eqb}
-use Rattle.refusals.specs.declared.Checked.{Checked}
-use Rattle.refusals.specs.Refusals.{checked_number}
+use Rattle.refusals.specs.Refusals.{Checked, checked_number}
 use borrow.Author.Tests.{leb-true, le-leb, lt-leb, ltb-false, eqb-true, eqb-false, eq-eqb, ne_eqb, le-ltb, lt-ltb}
-use lib.Seq.{drop-cons, get_or-drop}
+use lib.Seq.{get_or-drop}
 use native.Mathlib.Decide.{ℕ_discrete}
 use Rattle.laws.specs.Sizes.{variable_base, variable_end}
 use Rattle.terms.specs.Terms.{arity}
@@ -61,6 +61,11 @@ span_add sig (x ∷ y ∷ r) (suc a) b =
     let ih : span sig r (A + a + b) ≡ span sig r (A + a) + span sig (drop (span sig r (A + a)) r) b = span_add sig r (A + a) b in
     rw (suc-add, ← add_assoc, two_drop) (omega arith)
 
+-- a walk that ends within the bytes has an answer
+pub ended : (r : Option ℕ) (m : ℕ) → unwrap_or r (m + 1) ≤ m → IsSome r
+ended (Some n) m h = search rules
+ended None m h = absurd (omega (arith, h))
+
 -- one turn of the walk over the arguments
 module _ (sig t : List ℕ) (T used a i n : ℕ) (ia : i < a) (ul : used ≤ length t)
     (ne : n ≡ min (span sig (take (length t - used) (drop used t)) 1) (length (take (length t - used) (drop used t)) + 1))
@@ -90,6 +95,9 @@ module _ (sig t : List ℕ) (T used a i n : ℕ) (ia : i < a) (ul : used ≤ len
       let m = rw tail_part at ne in
       turn_more (omega (arith, m, turn_split, rest_length, length-drop used t))
 
+  pub turn_ends : (r : Option ℕ) → n ≡ unwrap_or r (length (take (length t - used) (drop used t)) + 1) → T ≤ length t → IsSome r
+  turn_ends r e h = ended r (length (take (length t - used) (drop used t))) (omega (arith, (turn_in h).0, rest_length, length-drop used t, e))
+
 pub items_step : (n : ℕ) (t : List ℕ) → 2 ≤ length t
     → items_good n t ≡ pick (declared n (get_or t 0 0 * 256 + get_or t 1 0)) (items_good n (drop 2 t)) false
 unfolding items_good
@@ -103,13 +111,17 @@ items_short n [] h = refl
 items_short n (x ∷ []) h = refl
 items_short n (x ∷ y ∷ r) h = absurd (omega arith)
 
-pub arities_step : (s : List ℕ) (i : ℕ) → i < length s → arities_good (drop i s) ≡ pick (leb (get_or s i 0) 8) (arities_good (drop (i + 1) s)) false
-unfolding arities_good
-arities_step s i h = rw (add-one, drop-cons s i 0)
+pub pick_and : (b c : Bool) → pick b c false ≡ (b && c)
+pick_and true c = refl
+pick_and false c = refl
 
-pub arities_end : (s : List ℕ) (i : ℕ) → length s ≤ i → arities_good (drop i s) ≡ true
+pub arities_none : arities_good [] ≡ true
 unfolding arities_good
-arities_end s i h = rw drop_of_length-le
+arities_none = refl
+
+pub arities_more : (a : ℕ) (s : List ℕ) → arities_good (a ∷ s) ≡ (leb a 8 && arities_good s)
+unfolding arities_good
+arities_more a s = pick_and (leb a 8) (arities_good s)
 
 -- a test whose refusal was not given
 past : (b : Bool) (n x : ℕ) → pick b (suc n) x ≡ 0 → (b ≡ false) × (x ≡ 0)
@@ -212,11 +224,11 @@ signed sig h =
     let d = taken (arities_good sig) 1 0 b.1 in
     record { short = ltb-false _ _ b.0; eight = arities_each sig d.0 }
 
--- what a check that answers Good has shown
-pub checked_good : (sig t : List ℕ) (k : Checked) → checked_number k ≡ refusal sig t → k ≡ Checked.Good → Good sig t
+-- what a check that answers Ok has shown
+pub checked_good : (sig t : List ℕ) (k : Checked) → checked_number k ≡ refusal sig t → k ≡ Ok tt → Good sig t
 checked_good sig t k h e = good sig t (sym h ∙ ap checked_number e)
 
-pub checked_signed : (sig : List ℕ) (k : Checked) → checked_number k ≡ sig_refusal sig → k ≡ Checked.Good → Signed sig
+pub checked_signed : (sig : List ℕ) (k : Checked) → checked_number k ≡ sig_refusal sig → k ≡ Ok tt → Signed sig
 checked_signed sig k h e = signed sig (sym h ∙ ap checked_number e)
 
 -- the ways out of the pass that counts the arguments still open

@@ -1,27 +1,18 @@
-use Rattle.terms.proofs.TermLaws.{turn_in}
-use Rattle.laws.proofs.Lists.{tail_part}
-use Prim.Native.Nat.{◌-◌}
-use mathlib.Core.Path.{◌≡◌}
-use native.Mathlib.Omega.{arith}
-use native.Mathlib.Nat.{sub-zero}
-use lib.ListN.{length-drop}
-use Rattle.terms.proofs.TermLaws.{span_zero}
+use Rattle.std.proofs.Common.{◌≡◌, ◌-◌, arith, refl}
+use Rattle.terms.proofs.TermLaws.{span_zero, turn_in, turn_ends}
 use Rattle.arguments.proofs.arg_at.Goals as goal
 
-pub loop-i-init : goal.loop-i-init
-loop-i-init c = (omega arith, omega arith, omega arith, rw sub-zero)
+pub unwrap-used-requires : goal.unwrap-used-requires
+unwrap-used-requires c = let l = c.loop-argument in
+    turn_ends _ _ _ _ _ _ _ c.loop-argument-test.true l.invariant.1 c.walk.ensures.bytes l.invariant.2 c.walk.result refl c.requires.k_in_bounds
 
-pub walk-used-requires : goal.walk-used-requires
-walk-used-requires c = rw tail_part (omega (arith, length-drop c.loop-i.used c.args.t.now))
-
-pub overflow_add-used : goal.overflow_add-used
-overflow_add-used c = omega (arith, (turn_in _ _ _ _ _ _ _ c.loop-i-test.true c.loop-i.invariant.2 c.walk-used.ensures c.loop-i.invariant.3 c.requires.k_in_bounds).0)
-
-pub loop-i-preserved : goal.loop-i-preserved
-loop-i-preserved c = let m = turn_in _ _ _ _ _ _ _ c.loop-i-test.true c.loop-i.invariant.2 c.walk-used.ensures c.loop-i.invariant.3 c.requires.k_in_bounds in
-    (omega arith, omega arith, m.0, m.1)
+pub loop-argument-preserved : goal.loop-argument-preserved
+loop-argument-preserved c = let l = c.loop-argument in
+    let e = rw c.unwrap-used.ensures at c.walk.ensures.bytes in
+    let m = turn_in _ _ _ _ _ _ _ c.loop-argument-test.true l.invariant.1 e l.invariant.2 c.requires.k_in_bounds in
+    (omega arith, m.0, m.1)
 
 pub returns : goal.returns
-returns c = let e : c.args.k - c.loop-i.i ≡ 0 = omega arith in
-    let z = rw (e, span_zero) at c.loop-i.invariant.3 in
+returns c = let e : c.args.k - c.loop-argument._argument ≡ 0 = omega arith in
+    let z = rw (e, span_zero) at c.loop-argument.invariant.2 in
     omega (arith, z)

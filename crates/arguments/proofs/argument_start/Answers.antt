@@ -1,24 +1,21 @@
+use Rattle.std.proofs.Common.{◌-◌, ◌∙◌, sym, arith, ne_eqb, eq-eqb}
+use Rattle.refusals.specs.Numbers.{err_refused, ok_taken}
+use Rattle.terms.specs.Terms.{arg_refusal, arg_start}
 use Rattle.terms.proofs.TermLaws.{arg_none, args_within}
-use Rattle.terms.specs.Terms.{arg_start, arg_refusal}
-use borrow.Author.Tests.{eq-eqb, ne_eqb}
-use native.Mathlib.Omega.{arith}
-use Prim.Native.Nat.{◌-◌}
-use mathlib.Core.Path.{◌≡◌, sym, ◌∙◌}
 use Rattle.arguments.proofs.argument_start.Goals as goal
 
-pub returns-then-argument_refusal-ne0 : goal.returns-then-argument_refusal-ne0
+pub returns-then-is_err : goal.returns-then-is_err
 unfolding arg_start
-returns-then-argument_refusal-ne0 c = let e : arg_refusal _ _ _ ≡ 0 → ⊥ = λ h. c.if-argument_refusal-ne0.true (c.argument_refusal.ensures ∙ h) in
-    rw (ne_eqb _ _ e)
+returns-then-is_err c = rw (ne_eqb (arg_refusal _ _ _) 0 (err_refused _ _ c.check_argument.ensures (sym c.is_err.ensures.value ∙ c.if-is_err.true)))
 
 pub overflow_sub-i : goal.overflow_sub-i
-overflow_sub-i c = (arg_none _ _ _ (sym c.argument_refusal.ensures ∙ c.if-argument_refusal-ne0.false)).1
+overflow_sub-i c = (arg_none _ _ _ (ok_taken _ _ c.check_argument.ensures (sym c.is_err.ensures.value ∙ c.if-is_err.false))).1
 
 pub arg_at-requires : goal.arg_at-requires
 arg_at-requires c = let a = c.args in
-    let g = arg_none a.sig.now a.t.now a.i (sym c.argument_refusal.ensures ∙ c.if-argument_refusal-ne0.false) in
+    let g = arg_none a.sig.now a.t.now a.i (ok_taken _ _ c.check_argument.ensures (sym c.is_err.ensures.value ∙ c.if-is_err.false)) in
     record { t_len_bound = g.0.short; k_in_bounds = args_within a.sig.now a.t.now (a.i - 1) g.0 (omega (arith, g.1, g.2)) }
 
 pub returns : goal.returns
 unfolding arg_start
-returns c = rw (eq-eqb _ _ (sym c.argument_refusal.ensures ∙ c.if-argument_refusal-ne0.false)) c.arg_at.ensures
+returns c = rw (eq-eqb _ _ (ok_taken _ _ c.check_argument.ensures (sym c.is_err.ensures.value ∙ c.if-is_err.false))) c.arg_at.ensures

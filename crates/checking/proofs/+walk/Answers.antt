@@ -1,32 +1,28 @@
-use Rattle.std.proofs.Common.{◌≡◌, ◌+◌, ◌-◌, ◌*◌, ◌≤◌, length, get_or, arith, length-drop}
+use Rattle.std.proofs.Common.{◌≡◌, ◌+◌, ◌-◌, ◌*◌, ◌≤◌, length, get_or, arith}
 use Rattle.terms.proofs.TermLaws.{span_zero, span_short, span_head, turn_short, turn_more}
-use Rattle.laws.proofs.Lists.{tail_part}
 use Rattle.checking.proofs.+walk.Goals as goal
 
-pub returns-then-t-lt2 : goal.returns-then-t-lt2
-returns-then-t-lt2 t c = omega (arith, span_short c.args.sig.now c.args.t.now 1 c.if-t-lt2.true)
+pub returns-then-t-lt2-clause-bytes : goal.returns-then-t-lt2-clause-bytes
+returns-then-t-lt2-clause-bytes t c = omega (arith, span_short c.args.sig.now c.args.t.now 1 c.if-t-lt2.true)
 
-pub loop-i-init : goal.loop-i-init
-loop-i-init t c =
+pub loop-argument-init : goal.loop-argument-init
+loop-argument-init t c =
     let a = c.args in
     let h : 2 ≤ length a.t.now = omega arith in
-    let e : c.arity-a.result - 0 ≡ get_or a.sig.now (get_or a.t.now 0 0 * 256 + get_or a.t.now 1 0) 0 + 0 = rw (← c.number_at.ensures.0) (omega (arith, c.arity-a.ensures.0)) in
-    (omega arith, omega arith, h, rw e (span_head a.sig.now a.t.now 0 h))
+    let e : c.arity-argument-end.result - 0 ≡ get_or a.sig.now (get_or a.t.now 0 0 * 256 + get_or a.t.now 1 0) 0 + 0 = rw (← c.number_at.ensures.0) (omega (arith, c.arity-argument-end.ensures.0)) in
+    (omega arith, h, rw e (span_head a.sig.now a.t.now 0 h))
 
-pub walk-n-requires : goal.walk-n-requires
-walk-n-requires t c = rw tail_part (omega (arith, c.requires, length-drop c.loop-i.used c.args.t.now))
+pub returns-in_err-used-clause-bytes : goal.returns-in_err-used-clause-bytes
+returns-in_err-used-clause-bytes t c = rw c.from_residual.ensures
+    (omega (arith, turn_short c.args.sig.now c.args.t.now _ _ _ _ _ c.loop-argument-test.true c.loop-argument.invariant.1 c.in_err-used.ensures.bytes c.loop-argument.invariant.2 (omega arith)))
 
-pub returns-then-rest-n : goal.returns-then-rest-n
-returns-then-rest-n t c =
-    omega (arith, turn_short c.args.sig.now c.args.t.now _ _ _ _ _ c.loop-i-test.true c.loop-i.invariant.2 c.walk-n.ensures c.loop-i.invariant.3 c.if-rest-n.true)
+pub loop-argument-preserved : goal.loop-argument-preserved
+loop-argument-preserved t c =
+    let m = turn_more c.args.sig.now c.args.t.now _ _ _ _ _ c.loop-argument-test.true c.loop-argument.invariant.1 c.in_ok-used.ensures.bytes c.loop-argument.invariant.2 c.in_ok-used.ensures.within in
+    (omega arith, m.0, m.1)
 
-pub loop-i-preserved : goal.loop-i-preserved
-loop-i-preserved t c =
-    let m = turn_more c.args.sig.now c.args.t.now _ _ _ _ _ c.loop-i-test.true c.loop-i.invariant.2 c.walk-n.ensures c.loop-i.invariant.3 c.if-rest-n.false in
-    (omega arith, omega arith, m.0, m.1)
-
-pub returns : goal.returns
-returns t c =
-    let e : c.arity-a.result - c.loop-i.i ≡ 0 = omega arith in
-    let z = rw (e, span_zero) at c.loop-i.invariant.3 in
+pub returns-clause-bytes : goal.returns-clause-bytes
+returns-clause-bytes t c =
+    let e : c.arity-argument-end.result - c.loop-argument._argument ≡ 0 = omega arith in
+    let z = rw (e, span_zero) at c.loop-argument.invariant.2 in
     omega (arith, z)

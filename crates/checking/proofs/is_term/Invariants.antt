@@ -1,10 +1,6 @@
-use Prim.Native.Nat.{◌-◌}
-use lib.ListN.{length}
+use Prim.Native.Nat.{◌*◌}
 use Rattle.terms.proofs.TermLaws.{Passing}
 use Rattle.checking.proofs.is_term.Given as goal
 
-abbrev pub invariant-loop-at : goal.invariant-loop-at
-invariant-loop-at l = Passing l.sig l.t l.at l.opened
-
-abbrev pub decreases-loop-at : goal.decreases-loop-at
-decreases-loop-at l = length l.t - l.at
+abbrev pub invariant-loop-i : goal.invariant-loop-i
+invariant-loop-i l = Passing l.sig l.t (2 * l.i) l.opened

@@ -14,7 +14,7 @@ pub returns-then-not-declared : goal.returns-then-not-declared
 returns-then-not-declared c = let l = c.loop-rest in
     let n = c.args.n in
     let h : 2 ≤ length l.rest.now = omega arith in
-    let d : is_declared n (get_or l.rest.now 0 0 * 256 + get_or l.rest.now 1 0) ≡ false = rw (← c.number_at-x.ensures.0) (sym c.declared.ensures ∙ c.if-not-declared.true) in
+    let d : is_declared n (get_or l.rest.now 0 0 * 256 + get_or l.rest.now 1 0) ≡ false = rw (← c.number_at.ensures.0) (sym c.declared.ensures ∙ c.if-not-declared.true) in
     sym (l.invariant ∙ (rw d at (items_step n l.rest.now h)))
 
 pub loop-rest-smaller : goal.loop-rest-smaller
@@ -25,7 +25,7 @@ pub loop-rest-preserved : goal.loop-rest-preserved
 loop-rest-preserved c = let l = c.loop-rest in
     let n = c.args.n in
     let h : 2 ≤ length l.rest.now = omega arith in
-    let d : is_declared n (get_or l.rest.now 0 0 * 256 + get_or l.rest.now 1 0) ≡ true = rw (← c.number_at-x.ensures.0) (sym c.declared.ensures ∙ c.if-not-declared.false) in
+    let d : is_declared n (get_or l.rest.now 0 0 * 256 + get_or l.rest.now 1 0) ≡ true = rw (← c.number_at.ensures.0) (sym c.declared.ensures ∙ c.if-not-declared.false) in
     rw tail_part (l.invariant ∙ (rw d at (items_step n l.rest.now h)))
 
 pub returns : goal.returns
