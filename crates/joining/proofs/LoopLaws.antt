@@ -1,27 +1,11 @@
--- Laws of lists that loops fill or map.
-use Prim.Native.Nat.{ℕ, zero, suc, ◌+◌, ◌≤◌, ◌<◌}
-use mathlib.Core.Path.{◌≡◌, refl, ap, ◌∙◌}
-use mathlib.Core.List.{List, [], ◌∷◌, ◌++◌, map, append-nil}
-use lib.ListN.{length, take, drop, get_or, set, drop_of_length-le, replicate}
-use lib.Seq.{take_all, get_or-set_same, get_or-set_other}
-use native.Mathlib.Numerals.{add-one}
+-- Laws of lists that loops fill.
+use Prim.Native.Nat.{ℕ, zero, suc, ◌+◌, ◌<◌}
+use mathlib.Core.Path.{◌≡◌, refl, ◌∙◌}
+use mathlib.Core.List.{List}
+use lib.ListN.{length, get_or, set, replicate}
+use lib.Seq.{get_or-set_same, get_or-set_other}
 use native.Mathlib.Omega.{arith}
 use native.Mathlib.Decide.{ℕ_discrete}
-
--- the first i elements mapped, the rest as they were
-abbrev pub upto : (ℕ → ℕ) → ℕ → List ℕ → List ℕ
-upto f i l = map f (take i l) ++ drop i l
-
-turn : (f : ℕ → ℕ) (l : List ℕ) (i : ℕ) → i < length l → set (upto f i l) i (f (get_or (upto f i l) i 0)) ≡ upto f (suc i) l
-turn f [] i h = absurd (omega arith)
-turn f (x ∷ l) zero h = refl
-turn f (x ∷ l) (suc i) h = ap (λ (t : List ℕ). f x ∷ t) (turn f l i (omega arith))
-
-pub map_turn : (f : ℕ → ℕ) (l : List ℕ) (i : ℕ) → i < length l → set (upto f i l) i (f (get_or (upto f i l) i 0)) ≡ upto f (i + 1) l
-map_turn f l i h = rw add-one (turn f l i h)
-
-pub map_all : (f : ℕ → ℕ) (l : List ℕ) (i : ℕ) → length l ≤ i → upto f i l ≡ map f l
-map_all f l i h = rw (take_all i l h, drop_of_length-le l h, append-nil)
 
 -- one more element of a list that is filled from the front by f
 pub filled : (f : ℕ → ℕ) (l : List ℕ) (i v : ℕ) → i < length l → v ≡ f i → ((k : ℕ) → k < i → get_or l k 0 ≡ f k) → (k : ℕ) → k < i + 1 → get_or (set l i v) k 0 ≡ f k

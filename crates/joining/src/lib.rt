@@ -2,10 +2,13 @@
 // node is an item of `pool`, which holds the terms one after another.
 #![tactic(auto)]
 
+// sig and pool stay apart everywhere: a struct's ghost field must be a bare fact, and `Given` holds a number.
 mod binding;
 mod merging;
+mod pending;
 mod walk;
 
 pub use binding::bind;
-pub use merging::{merge, pair};
+pub use merging::merge;
+pub use pending::Pending;
 pub use walk::opens;

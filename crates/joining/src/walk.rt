@@ -5,9 +5,10 @@ ghost use Rattle.theory.specs.ItemWalk.{extra};
 ghost use Rattle.theory.specs.Nodes.{Begins, NextNode};
 ghost use Rattle.terms.specs.Terms.{arity};
 
-use laws::{VARIABLE, wide16};
+use laws::VARIABLE;
 
 // The arguments that follow the item c.
+#[tactic(auto, unfolding(theory::specs::ItemWalk::extra))]
 pub fn opens(sig: &[u8], c: usize) -> usize
     ensures { (result ≡ extra sig.now c) × (result < 256) }
 {
@@ -27,8 +28,9 @@ pub fn skip(sig: &[u8], pool: &[u16], p: usize) -> usize
 {
     let mut opened: usize = 1;
     let mut i = p;
+    // A while: the items' arities say where the term ends.
     while opened != 0 {
-        let c = wide16(pool[i]);
+        let c = pool[i] as usize;
         opened = opened - 1 + opens(sig, c);
         i += 1;
     }

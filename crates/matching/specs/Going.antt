@@ -1,7 +1,7 @@
 -- Serves SCOPE.md, 'The relations themselves': the walk of matching, before item i of the pattern p and item j of the
 -- target t: its state, each step, and the ends.
-use Rattle.std.specs.Prelude.{◌≡◌, refl, ◌≢◌, List, [], ◌∷◌, ◌++◌, ℕ, zero, suc, ◌+◌, ◌-◌, ◌/◌, ◌≤◌, ◌<◌, length, get_or, drop, take, set}
-use Rattle.std.proofs.Common.{sym, ap, ◌∙◌, inl, inr, add-one, arith, length-set, length-drop, length-append, drop_of_length-le, take-append-drop, get_or-set_same, get_or-set_other, take_at, lt-ltb, le-ltb}
+use Rattle.std.specs.Prelude.{◌≡◌, refl, ◌≢◌, List, [], ◌∷◌, ◌++◌, ℕ, zero, suc, ◌+◌, ◌-◌, ◌/◌, ◌≤◌, ◌<◌, length, get_or, drop, take, set, Option, Some, None}
+use Rattle.std.proofs.Common.{sym, ap, ◌∙◌, inl, inr, arith, length-set, length-drop, length-append, drop_of_length-le, take-append-drop, get_or-set_same, get_or-set_other, take_at, lt-ltb, le-ltb}
 use Rattle.std.proofs.Math.Decide.{ℕ_discrete}
 use Rattle.theory.specs.Flat.{Item, sy, va, Terms}
 use Rattle.theory.specs.Subst.{vars, app, app_agree, term_length}
@@ -23,19 +23,19 @@ var_item c b = rw (le-ltb c variable_base b)
 
 module _ (sig p t : List ℕ) where
   -- the binding of y: none, or to the term at an item before j
-  abbrev pub Entry : List Bind → ℕ → ℕ → ℕ → Type 0
-  Entry B j y zero = Unbound y B
-  Entry B j y (suc q) = (q < j) × Has y (val (arity sig) (items t) q) B
+  abbrev pub Entry : List Bind → ℕ → ℕ → Option ℕ → Type 0
+  Entry B j y None = Unbound y B
+  Entry B j y (Some q) = (q < j) × Has y (val (arity sig) (items t) q) B
 
-  pub record Going (tab : List ℕ) (i j : ℕ) : Type 0 where
+  pub record Going (tab : List (Option ℕ)) (i j : ℕ) : Type 0 where
     pub binds : List Bind
     pub count : ℕ
     pub inv : MatchInv (arity sig) (items p) (items t) binds count (drop i (items p)) (drop j (items t))
-    pub table : (y : ℕ) → Entry binds j y (get_or tab y 0)
+    pub table : (y : ℕ) → Entry binds j y (get_or tab y None)
     pub many : length tab ≡ 32
     pub low : j ≤ length t / 2
 
-  pub going_start : Fine sig p → Fine sig t → (tab : List ℕ) → length tab ≡ 32 → ((y : ℕ) → get_or tab y 0 ≡ 0) → Going tab 0 0
+  pub going_start : Fine sig p → Fine sig t → (tab : List (Option ℕ)) → length tab ≡ 32 → ((y : ℕ) → get_or tab y None ≡ None) → Going tab 0 0
   going_start f g tab l z = record {
     binds = [];
     count = 1;
@@ -45,15 +45,15 @@ module _ (sig p t : List ℕ) where
     low = omega arith;
   }
 
-  entry_later : (B : List Bind) (j e y n : ℕ) → j ≤ e → Entry B j y n → Entry B e y n
-  entry_later B j e y zero b h = h
-  entry_later B j e y (suc q) b h = (omega (arith, h.0), h.1)
+  entry_later : (B : List Bind) (j e y : ℕ) (n : Option ℕ) → j ≤ e → Entry B j y n → Entry B e y n
+  entry_later B j e y None b h = h
+  entry_later B j e y (Some q) b h = (omega (arith, h.0), h.1)
 
-  entry_more : (B : List Bind) (x : ℕ) (u : List Item) (j e y n : ℕ) → j ≤ e → x ≢ y → Entry B j y n → Entry ((x := u) ∷ B) e y n
-  entry_more B x u j e y zero b d h = (d, h)
-  entry_more B x u j e y (suc q) b d h = (omega (arith, h.0), inr h.1)
+  entry_more : (B : List Bind) (x : ℕ) (u : List Item) (j e y : ℕ) (n : Option ℕ) → j ≤ e → x ≢ y → Entry B j y n → Entry ((x := u) ∷ B) e y n
+  entry_more B x u j e y None b d h = (d, h)
+  entry_more B x u j e y (Some q) b d h = (omega (arith, h.0), inr h.1)
 
-  module _ (tab : List ℕ) (i j : ℕ) (g : Going tab i j) (il : i < length p / 2) where
+  module _ (tab : List (Option ℕ)) (i j : ℕ) (g : Going tab i j) (il : i < length p / 2) where
     head_p : drop i (items p) ≡ item16 (item_at p i) ∷ drop (i + 1) (items p)
     head_p = items_drop p i il
 
@@ -84,7 +84,7 @@ module _ (sig p t : List ℕ) where
             binds = g.binds;
             count = arity sig (item_at p i) + k;
             inv = step_symbol (arity sig) (items p) (items t) g.binds k (item_at p i) (drop (i + 1) (items p)) (drop (j + 1) (items t)) v;
-            table = λ y. entry_later g.binds j (j + 1) y (get_or tab y 0) (omega arith) (g.table y);
+            table = λ y. entry_later g.binds j (j + 1) y (get_or tab y None) (omega arith) (g.table y);
             many = g.many;
             low = omega (arith, going_in);
           }
@@ -133,21 +133,21 @@ module _ (sig p t : List ℕ) where
             go zero v = absurd (rw var_p at v.left)
             go (suc k) v = h k (term_u k v.right) (term_e k v.right) (rw (var_p, whole) at v)
 
-        pub going_new : x < 32 → get_or tab x 0 ≡ 0 → Going (set tab x (j + 1)) (i + 1) e
+        pub going_new : x < 32 → get_or tab x None ≡ None → Going (set tab x (Some j)) (i + 1) e
         going_new xl z = taken (λ k a b v. record {
           binds = (x := val (arity sig) (items t) j) ∷ g.binds;
           count = k;
           inv = step_new (arity sig) (items p) (items t) g.binds k x (val (arity sig) (items t) j) (drop (i + 1) (items p)) (drop e (items t)) a b (rw z at (g.table x)) v;
           table = λ y. at y (ℕ_discrete x y);
-          many = length-set tab x (j + 1) ∙ g.many;
+          many = length-set tab x (Some j) ∙ g.many;
           low = el;
         })
           where
-            at : (y : ℕ) → Dec (x ≡ y) → Entry ((x := val (arity sig) (items t) j) ∷ g.binds) e y (get_or (set tab x (j + 1)) y 0)
-            at y (yes q) = rw (← q, get_or-set_same tab x (j + 1) 0 (omega (arith, g.many)), add-one j) (je, inl (refl, refl))
-            at y (no d) = rw (get_or-set_other tab x y (j + 1) 0 (λ q. d (sym q))) (entry_more g.binds x (val (arity sig) (items t) j) j e y (get_or tab y 0) (omega arith) d (g.table y))
+            at : (y : ℕ) → Dec (x ≡ y) → Entry ((x := val (arity sig) (items t) j) ∷ g.binds) e y (get_or (set tab x (Some j)) y None)
+            at y (yes q) = rw (← q, get_or-set_same tab x (Some j) None (omega (arith, g.many))) (je, inl (refl, refl))
+            at y (no d) = rw (get_or-set_other tab x y (Some j) None (λ q. d (sym q))) (entry_more g.binds x (val (arity sig) (items t) j) j e y (get_or tab y None) (omega arith) d (g.table y))
 
-        module _ (q : ℕ) (z : get_or tab x 0 ≡ suc q) where
+        module _ (q : ℕ) (z : get_or tab x None ≡ Some q) where
           pub before : q < j
           before = (rw z at (g.table x)).0
 
@@ -165,7 +165,7 @@ module _ (sig p t : List ℕ) where
             binds = g.binds;
             count = k;
             inv = step_old (arity sig) (items p) (items t) g.binds k x (val (arity sig) (items t) j) (drop (i + 1) (items p)) (drop e (items t)) a b (rw (same a) at has) v;
-            table = λ y. entry_later g.binds j e y (get_or tab y 0) (omega arith) (g.table y);
+            table = λ y. entry_later g.binds j e y (get_or tab y None) (omega arith) (g.table y);
             many = g.many;
             low = el;
           })
@@ -184,7 +184,7 @@ module _ (sig p t : List ℕ) where
                   ∙ take_at (val (arity sig) (items t) j) (rest (arity sig) 1 (drop q (items t))) (e - j) size ∙ sym first_j
 
   -- the end
-  module _ (tab : List ℕ) (i j : ℕ) (g : Going tab i j) (il : length p / 2 ≤ i) where
+  module _ (tab : List (Option ℕ)) (i j : ℕ) (g : Going tab i j) (il : length p / 2 ≤ i) where
     turns : app (once g.binds) (items p) ≡ items t
     turns = go g.count (drop j (items t)) (rw gone at g.inv)
       where
@@ -208,17 +208,17 @@ module _ (sig p t : List ℕ) where
         go (no d) h = h
 
     -- every binding is to a variable
-    pub going_renames : ((y q : ℕ) → get_or tab y 0 ≡ suc q → variable_base ≤ item_at t q) → Variant p t
-    going_renames h = record { to = λ y. name y (get_or tab y 0); turns = app_agree (λ y. vars (name y (get_or tab y 0))) (once g.binds) (items p) (λ y k. at y (get_or tab y 0) refl) ∙ turns }
+    pub going_renames : ((y q : ℕ) → get_or tab y None ≡ Some q → variable_base ≤ item_at t q) → Variant p t
+    going_renames h = record { to = λ y. name y (get_or tab y None); turns = app_agree (λ y. vars (name y (get_or tab y None))) (once g.binds) (items p) (λ y k. at y (get_or tab y None) refl) ∙ turns }
       where
-        name : ℕ → ℕ → ℕ
-        name y zero = y
-        name y (suc q) = item_at t q - variable_base
+        name : ℕ → Option ℕ → ℕ
+        name y None = y
+        name y (Some q) = item_at t q - variable_base
 
-        at : (y n : ℕ) → get_or tab y 0 ≡ n → vars (name y n) ≡ once g.binds y
-        at y zero e = sym (once_free g.binds y (rw e at (g.table y)))
-        at y (suc q) e =
-            let k : Entry g.binds j y (suc q) = rw e at (g.table y) in
+        at : (y : ℕ) (n : Option ℕ) → get_or tab y None ≡ n → vars (name y n) ≡ once g.binds y
+        at y None e = sym (once_free g.binds y (rw e at (g.table y)))
+        at y (Some q) e =
+            let k : Entry g.binds j y (Some q) = rw e at (g.table y) in
             let b : q < length t / 2 = omega (arith, k.0, g.low) in
             sym (agrees_has (once g.binds) y (val (arity sig) (items t) q) g.binds k.1 (agrees_once (arity sig) g.binds g.inv.once_each)
             ∙ val_var (arity sig) (items t) q (item_at t q - variable_base) (omega (arith, length_items t)) (items_at t q b ∙ var_item (item_at t q) (h y q e)))

@@ -2,30 +2,21 @@
 // variable's number is an index of the binding table and is never compared with a number of the target.
 #![tactic(auto)]
 
-ghost use Rattle.std.specs.Prelude.{◌≡◌, ℕ, suc, ◌+◌, ◌-◌, ◌/◌, ◌≤◌, ◌<◌, length, get_or, take, drop};
+ghost use Rattle.std.specs.Prelude.{◌≡◌, ℕ, ◌+◌, ◌-◌, ◌/◌, ◌≤◌, ◌<◌, length, get_or, take, drop};
+ghost use Rattle.std.specs.Prelude.{IsTrue, IsFalse};
 ghost use Rattle.theory.specs.Items.{items, Fine};
 ghost use Rattle.theory.specs.Relations.{Decided, Instance, Variant};
 ghost use Rattle.matching.specs.Going.{Going};
 ghost use Rattle.matching.specs.Steps.{EndsAt, Agreed, Stepped, Met};
 
-use laws::{VARIABLE, low, number_at, wide};
+use laws::{VARIABLE, number_at};
 use terms::arity;
 
 // Whether a and b are the same bytes.
 pub fn equal(a: &[u8], b: &[u8]) -> bool
     ensures { Decided result (a.now ≡ b.now) }
 {
-    if a.len() != b.len() {
-        return false;
-    }
-    let mut i: usize = 0;
-    while i < a.len() {
-        if a[i] != b[i] {
-            return false;
-        }
-        i += 1;
-    }
-    true
+    a == b
 }
 
 // The item after the term that begins at item j of t.
@@ -35,6 +26,7 @@ fn end_of(sig: &[u8], t: &[u8], j: usize) -> usize
 {
     let mut opened: usize = 1;
     let mut i = j;
+    // A while: the items' arities say where the term ends.
     while opened != 0 {
         let c = number_at(t, 2 * i);
         opened = opened - 1 + arity(sig, c);
@@ -48,69 +40,45 @@ fn same(t: &[u8], a: usize, b: usize, n: usize) -> bool
     requires { (a + n ≤ length t.now / 2) × (b + n ≤ length t.now / 2) }
     ensures { Decided result (take n (drop a (items t.now)) ≡ take n (drop b (items t.now))) }
 {
-    let mut i: usize = 0;
-    while i < n {
-        if number_at(t, 2 * (a + i)) != number_at(t, 2 * (b + i)) {
-            return false;
-        }
-        i += 1;
-    }
-    true
+    t[2 * a..2 * (a + n)] == t[2 * b..2 * (b + n)]
 }
 
 // Pattern variable x against the items of t from j to e: bound to them, or whether they are what it has.
-fn agrees(t: &[u8], tab: &mut [u8; 32], x: usize, j: usize, e: usize) -> bool
+fn agrees(t: &[u8], tab: &mut [Option<u8>; 32], x: usize, j: usize, e: usize) -> bool
     requires { (length tab.old ≡ 32) × (length t.now ≤ 64) × (x < 32) × (j < e) × (e ≤ length t.now / 2)
-        × ((q : ℕ) → get_or tab.old x 0 ≡ suc q → q < j) }
+        × ((q : ℕ) → get_or tab.old x None ≡ Some q → q < j) }
     ensures { Agreed t.now tab.old tab.new x j e result }
 {
-    let b = wide(tab[x]);
-    if b == 0 {
-        tab[x] = low(j + 1);
-        return true;
+    match tab[x] {
+        Some(first) => same(t, first as usize, j, e - j),
+        None => {
+            tab[x] = Some(j as u8);
+            true
+        }
     }
-    same(t, b - 1, j, e - j)
 }
 
-// Item i of the pattern against the target from item j on: the item of the target that comes next, or 0 where it
-// differs.
-fn step(sig: &[u8], pattern: &[u8], target: &[u8], tab: &mut [u8; 32], i: usize, j: usize) -> usize
+// Item i of the pattern against the target from item j on: the item of the target that comes next, none where it
+// differs. Inlined, since both walks run through it at each item.
+#[inline(always)]
+fn step(
+    sig: &[u8],
+    pattern: &[u8],
+    target: &[u8],
+    tab: &mut [Option<u8>; 32],
+    i: usize,
+    j: usize,
+) -> Option<usize>
     requires { Fine sig.now pattern.now × Fine sig.now target.now × (i < length pattern.now / 2)
         × Going sig.now pattern.now target.now tab.old i j }
-    ensures { Stepped sig.now pattern.now target.now tab.old
-        tab.new i j result }
+    ensures { Stepped sig.now pattern.now target.now tab.old tab.new i j result }
 {
     let c = number_at(pattern, 2 * i);
     if c < VARIABLE {
-        if number_at(target, 2 * j) != c {
-            return 0;
-        }
-        return j + 1;
+        return (number_at(target, 2 * j) == c).then_some(j + 1);
     }
     let e = end_of(sig, target, j);
-    if agrees(target, tab, c - VARIABLE, j, e) {
-        return e;
-    }
-    0
-}
-
-// Whether some substitution turns the pattern into the target.
-pub fn instance(sig: &[u8], pattern: &[u8], target: &[u8]) -> bool
-    requires { Fine sig.now pattern.now × Fine sig.now target.now }
-    ensures { Decided result (Instance sig.now pattern.now target.now) }
-{
-    let n = pattern.len() / 2;
-    let mut tab = [0u8; 32];
-    let mut j: usize = 0;
-    let mut i: usize = 0;
-    while i < n {
-        j = step(sig, pattern, target, &mut tab, i, j);
-        if j == 0 {
-            return false;
-        }
-        i += 1;
-    }
-    true
+    agrees(target, tab, c - VARIABLE, j, e).then_some(e)
 }
 
 // Whether item i of the pattern is a variable only where item j of the target is one.
@@ -118,10 +86,35 @@ fn meets(pattern: &[u8], target: &[u8], i: usize, j: usize) -> bool
     requires { (i < length pattern.now / 2) × (j < length target.now / 2) }
     ensures { Met pattern.now target.now i j result }
 {
-    if number_at(pattern, 2 * i) < VARIABLE {
-        return true;
+    number_at(pattern, 2 * i) < VARIABLE || VARIABLE <= number_at(target, 2 * j)
+}
+
+// Whether the pattern turns into the target: its variables into variables alone where RENAMES, else into terms.
+fn turns<const RENAMES: bool>(sig: &[u8], pattern: &[u8], target: &[u8]) -> bool
+    requires { Fine sig.now pattern.now × Fine sig.now target.now }
+    ensures renames { IsTrue RENAMES → Decided result (Variant pattern.now target.now) }
+    ensures fits { IsFalse RENAMES → Decided result (Instance sig.now pattern.now target.now) }
+{
+    let mut tab = [None; 32];
+    let mut j = 0;
+    for i in 0..pattern.len() / 2 {
+        if RENAMES && !meets(pattern, target, i, j) {
+            return false;
+        }
+        let Some(next) = step(sig, pattern, target, &mut tab, i, j) else {
+            return false;
+        };
+        j = next;
     }
-    VARIABLE <= number_at(target, 2 * j)
+    true
+}
+
+// Whether some substitution turns the pattern into the target.
+pub fn instance(sig: &[u8], pattern: &[u8], target: &[u8]) -> bool
+    requires { Fine sig.now pattern.now × Fine sig.now target.now }
+    ensures { Decided result (Instance sig.now pattern.now target.now) }
+{
+    turns::<false>(sig, pattern, target)
 }
 
 // Whether some replacement of variables by variables turns the pattern into the target.
@@ -129,19 +122,5 @@ pub fn variant(sig: &[u8], pattern: &[u8], target: &[u8]) -> bool
     requires { Fine sig.now pattern.now × Fine sig.now target.now }
     ensures { Decided result (Variant pattern.now target.now) }
 {
-    let n = pattern.len() / 2;
-    let mut tab = [0u8; 32];
-    let mut j: usize = 0;
-    let mut i: usize = 0;
-    while i < n {
-        if !meets(pattern, target, i, j) {
-            return false;
-        }
-        j = step(sig, pattern, target, &mut tab, i, j);
-        if j == 0 {
-            return false;
-        }
-        i += 1;
-    }
-    true
+    turns::<true>(sig, pattern, target)
 }

@@ -1,19 +1,18 @@
 -- Serves SCOPE.md, 'The relations themselves' (unifiable) and 'Numbers of refusal' (2, 5 to 8): what is answered of one
 -- stored term and one question.
-use Rattle.std.specs.Prelude.{ℕ, ◌≤◌, ◌≡◌, refl, ◌⊎◌, List, eqb, leb}
+use Rattle.std.specs.Prelude.{ℕ, ◌≤◌, ◌≡◌, refl, ◌⊎◌, List, eqb, leb, Bool, true, false, Result, Ok, Err}
 use Rattle.std.proofs.Common.{sym, ap, ◌∙◌, inl, inr, ⊎_elim, arith, eq-eqb, ne_eqb, le-leb}
 use Rattle.std.proofs.Math.Decide.{ℕ_discrete, dec_le}
 use Rattle.std.proofs.lemmas.Bool.{lt-leb}
 use Rattle.laws.specs.Choice.{pick}
 use Rattle.terms.specs.Terms.{sig_refusal, refusal}
+use Rattle.refusals.specs.declared.Refusal.{Refusal}
 use Rattle.refusals.specs.Refusals.{number_of, rank}
 use Rattle.refusals.specs.Numbers.{number_some, number_one}
 use Rattle.theory.specs.Relations.{Unifiable as Unifies}
 use Rattle.definitions.specs.Ranks.{First, Rows, part, AppliesIn}
 use Rattle.definitions.specs.Conditions.{signature_rows, term_rows}
 use Rattle.definitions.specs.FirstRefusal.{signature_first, refusal_first}
-use Rattle.pairs.specs.declared.Paired.{Paired}
-use Rattle.pairs.specs.declared.Paired.TheVariants.{Unifiable, Apart, Refused}
 
 -- of two numbers of refusal the first in rank, where 0 is none
 unfoldable pub first_of : ℕ → ℕ → ℕ
@@ -55,19 +54,20 @@ pub pair_first : (sig s q : List ℕ) → First (AppliesIn (pair_rows sig s q)) 
 unfolding pair_refusal
 pair_first sig s q = first_of_lem (signature_first sig) (first_of_lem (refusal_first sig s) (refusal_first sig q))
 
-abbrev pub Answers : List ℕ → List ℕ → List ℕ → Paired → Type 0
-Answers sig s q Unifiable = (pair_refusal sig s q ≡ 0) × Unifies sig s q
-Answers sig s q Apart = (pair_refusal sig s q ≡ 0) × (Unifies sig s q → ⊥)
-Answers sig s q (Refused why) = number_of why ≡ pair_refusal sig s q
+-- what is answered: whether the two unify, or why that is refused
+abbrev pub Answers : List ℕ → List ℕ → List ℕ → Result Bool Refusal → Type 0
+Answers sig s q (Ok true) = (pair_refusal sig s q ≡ 0) × Unifies sig s q
+Answers sig s q (Ok false) = (pair_refusal sig s q ≡ 0) × (Unifies sig s q → ⊥)
+Answers sig s q (Err why) = number_of why ≡ pair_refusal sig s q
 
 -- two answers that unifiable may give are one
-pub answers_one : (sig s q : List ℕ) (a b : Paired) → Answers sig s q a → Answers sig s q b → a ≡ b
-answers_one sig s q Unifiable Unifiable h k = refl
-answers_one sig s q Unifiable Apart h k = absurd (k.1 h.1)
-answers_one sig s q Unifiable (Refused v) h k = absurd (number_some v (k ∙ h.0))
-answers_one sig s q Apart Unifiable h k = absurd (h.1 k.1)
-answers_one sig s q Apart Apart h k = refl
-answers_one sig s q Apart (Refused v) h k = absurd (number_some v (k ∙ h.0))
-answers_one sig s q (Refused w) Unifiable h k = absurd (number_some w (h ∙ k.0))
-answers_one sig s q (Refused w) Apart h k = absurd (number_some w (h ∙ k.0))
-answers_one sig s q (Refused w) (Refused v) h k = ap (λ z. Refused z) (number_one w v (h ∙ sym k))
+pub answers_one : (sig s q : List ℕ) (a b : Result Bool Refusal) → Answers sig s q a → Answers sig s q b → a ≡ b
+answers_one sig s q (Ok true) (Ok true) h k = refl
+answers_one sig s q (Ok true) (Ok false) h k = absurd (k.1 h.1)
+answers_one sig s q (Ok true) (Err v) h k = absurd (number_some v (k ∙ h.0))
+answers_one sig s q (Ok false) (Ok true) h k = absurd (h.1 k.1)
+answers_one sig s q (Ok false) (Ok false) h k = refl
+answers_one sig s q (Ok false) (Err v) h k = absurd (number_some v (k ∙ h.0))
+answers_one sig s q (Err w) (Ok true) h k = absurd (number_some w (h ∙ k.0))
+answers_one sig s q (Err w) (Ok false) h k = absurd (number_some w (h ∙ k.0))
+answers_one sig s q (Err w) (Err v) h k = ap (λ z. Err z) (number_one w v (h ∙ sym k))

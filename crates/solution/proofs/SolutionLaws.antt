@@ -1,28 +1,55 @@
--- Laws of tables that loops fill or test, and of a field that is written.
+-- Laws of what is counted over the tables, and of a field that is written.
 use Prim.Native.Nat.{ℕ, zero, suc, ◌+◌, ◌-◌, ◌/◌, ◌%◌, ◌≤◌, ◌<◌}
 use mathlib.Core.Path.{◌≡◌, refl, sym, ap, ◌∙◌}
-use mathlib.Core.List.{List, ◌++◌}
+use mathlib.Core.List.{List, [], ◌∷◌, ◌++◌}
 use mathlib.Core.Logic.{◌≢◌}
-use lib.ListN.{length, get_or, drop, take, set, replicate, length-set, length-drop}
+use lib.ListN.{length, get_or, drop, take, replicate, length-drop}
+use lib.Seq.{length-take-le}
+use Rattle.std.proofs.Common.{drop_at}
 use native.Mathlib.Omega.{arith}
-use native.Mathlib.Decide.{ℕ_discrete}
+use mathlib.Core.Bool.{cond, not}
+use Rattle.std.proofs.lemmas.Bool.Decides.{nat_tests}
+use Rattle.std.specs.Prelude.{◌==◌, count_by, sum_by}
+use Rattle.std.specs.List.{zip}
+use Rattle.std.proofs.lemmas.List.{at_drop_all}
+use Rattle.std.proofs.lemmas.List.Sums.{sum_by-drop_more}
+use Rattle.std.proofs.lemmas.Slice.Zip.{length-zip, get_or-zip}
 use borrow.Rule.Slice.PartMut.{same_len_mid, put_mid}
 use Rattle.laws.proofs.Lists.{tail_part, tail_back}
 use Rattle.solution.specs.Filling.{front}
 use Rattle.solution.specs.ValueBytes.{term_bytes}
-use Rattle.solution.specs.RecordFields.{part, field, length_field, part_some, length_part, field_front, drop_five}
+use Rattle.solution.specs.Totals.{bytes_if, total_from, total_turn, total_end, present, bound_count, count_turn, count_end}
+use Rattle.solution.specs.RecordFields.{part, length_field, part_some, head_front}
+
+present_cond : (e : ℕ) → present e ≡ cond (not (e == 0)) 1 0
+present_cond zero = refl
+present_cond (suc e) = grind (arith, nat_tests)
+
+-- the fields counted, and their bytes summed, are those of the lists from y on
+pub bound_count_by : (tab : List ℕ) (k y : ℕ) → y + k ≡ length tab → bound_count tab k y ≡ count_by (λ e. not (e == 0)) (drop y tab)
+bound_count_by tab zero y h = count_end tab 0 y refl ∙ sym (at_drop_all (count_by (λ e. not (e == 0))) tab y (omega arith))
+bound_count_by tab (suc k) y h =
+    let less : suc k - 1 ≡ k = omega arith in
+    let turn : bound_count tab (suc k) y ≡ present (get_or tab y 0) + bound_count tab k (y + 1) = rw less at (count_turn tab (suc k) y (λ z. omega (arith, z))) in
+    let step : count_by (λ e. not (e == 0)) (drop y tab) ≡ cond (not (get_or tab y 0 == 0)) 1 0 + count_by (λ e. not (e == 0)) (drop (y + 1) tab) = sum_by-drop_more _ tab y 0 (omega arith) in
+    omega (arith, turn, step, bound_count_by tab k (y + 1) (omega arith), present_cond (get_or tab y 0))
+
+abbrev pub pair_bytes : ℕ × ℕ → ℕ
+pair_bytes p = bytes_if p.0 p.1
+
+pub total_sum_by : (tab sz : List ℕ) (k y : ℕ) → y + k ≡ length tab → length sz ≡ length tab → total_from tab sz k y ≡ sum_by pair_bytes (drop y (zip tab sz))
+total_sum_by tab sz zero y h l = total_end tab sz 0 y refl ∙ sym (at_drop_all (sum_by pair_bytes) (zip tab sz) y (omega (arith, length-zip tab sz)))
+total_sum_by tab sz (suc k) y h l =
+    let less : suc k - 1 ≡ k = omega arith in
+    let turn : total_from tab sz (suc k) y ≡ bytes_if (get_or tab y 0) (get_or sz y 0) + total_from tab sz k (y + 1) = rw less at (total_turn tab sz (suc k) y (λ z. omega (arith, z))) in
+    let step : sum_by pair_bytes (drop y (zip tab sz)) ≡ pair_bytes (get_or (zip tab sz) y (0, 0)) + sum_by pair_bytes (drop (y + 1) (zip tab sz)) = sum_by-drop_more pair_bytes (zip tab sz) y (0, 0) (omega (arith, length-zip tab sz)) in
+    let here : pair_bytes (get_or (zip tab sz) y (0, 0)) ≡ bytes_if (get_or tab y 0) (get_or sz y 0) = ap pair_bytes (get_or-zip tab sz y (0, 0) (omega arith) (omega arith)) in
+    omega (arith, turn, step, here, total_sum_by tab sz k (y + 1) (omega arith) l)
 
 pub ones_at : (n y : ℕ) → y < n → ◌≡◌ {A = ℕ} (get_or (replicate n 1) y 0) 1
 ones_at zero y b = absurd (omega arith)
 ones_at (suc n) zero b = refl
 ones_at (suc n) (suc y) b = ones_at n y (omega arith)
-
-pub le_more : (f : ℕ → ℕ) (c i : ℕ) → ((k : ℕ) → k < i → f k ≤ c) → f i ≤ c → (k : ℕ) → k < i + 1 → f k ≤ c
-le_more f c i h e k b = go (ℕ_discrete k i)
-  where
-    go : Dec (k ≡ i) → f k ≤ c
-    go (yes q) = rw q e
-    go (no q) = h k (omega (arith, q))
 
 -- a writer of the bytes w got the buffer from `used` on, and it came back as last
 pub tail_front : (used : ℕ) (out last w : List ℕ) → length last ≡ length (take (length out - used) (drop used out))
@@ -33,51 +60,30 @@ tail_front used out last w k e = (
   tail_back used out last ∙ ap (λ (r : List ℕ). take used out ++ r) (e ∙ ap (λ (r : List ℕ). front w r) (tail_part out used)),
 )
 
--- the field of the variable y, whose entry is not 0, at the start of a buffer that has room for it
+-- the field of the variable y, whose entry is not 0
 module _ (sig pool tab : List ℕ) (y : ℕ) (some : get_or tab y 0 ≢ 0) where
-  -- the bytes of its value, from the entry e
-  pub value_length : (e : ℕ) → e ≡ get_or tab y 0 → length (term_bytes sig pool tab 63 (e - 1)) + 5 ≡ length (part sig pool tab y)
-  value_length e h =
-      let w = term_bytes sig pool tab 63 (get_or tab y 0 - 1) in
-      ap (λ (j : ℕ). length (term_bytes sig pool tab 63 (j - 1)) + 5) h ∙ sym (length_field y w) ∙ ap length (sym (part_some sig pool tab y some))
+  abbrev pub bound_bytes : List ℕ
+  bound_bytes = term_bytes sig pool tab 63 (get_or tab y 0 - 1)
 
-  module _ (out : List ℕ) (room : length (part sig pool tab y) ≤ length out) where
-    pub five : 5 ≤ length out
-    five = omega (arith, length_part sig pool tab y some, room)
+  pub bound_length : length bound_bytes + 5 ≡ length (part sig pool tab y)
+  bound_length = sym (length_field y bound_bytes) ∙ ap length (sym (part_some sig pool tab y some))
 
-    -- the head but for the two bytes of the length
-    abbrev pub headed : ℕ → ℕ → List ℕ
-    headed g z = set (set (set out 0 16) 3 g) 4 z
+  pub bound_room : (out : List ℕ) → length (part sig pool tab y) ≤ length out → length bound_bytes ≤ length (take (length out - 5) (drop 5 out))
+  bound_room out room = rw (tail_part out 5) (omega (arith, length-drop 5 out, bound_length, room))
 
-    headed_length : (g z : ℕ) → length (headed g z) ≡ length out
-    headed_length g z = length-set (set (set out 0 16) 3 g) 4 z ∙ length-set (set out 0 16) 3 g ∙ length-set out 0 16
+  -- the buffer has room for the head, also when the value has come back into it
+  pub head_room : (out : List ℕ) → length (part sig pool tab y) ≤ length out → 5 ≤ length out
+  head_room out room = omega (arith, bound_length, room)
 
-    pub value_room : (g z e : ℕ) → e ≡ get_or tab y 0 → length (term_bytes sig pool tab 63 (e - 1)) ≤ length (take (length (headed g z) - 5) (drop 5 (headed g z)))
-    value_room g z e h = rw (tail_part (headed g z) 5) (omega (arith, length-drop 5 (headed g z), headed_length g z, value_length e h, room))
+  pub head_back : (out last : List ℕ) → length (part sig pool tab y) ≤ length out → length last ≡ length (take (length out - 5) (drop 5 out)) → 5 ≤ length (put_mid 5 (length out - 5) out last)
+  head_back out last room k = omega (arith, same_len_mid 5 (length out - 5) out last k, head_room out room)
 
-    -- the value written behind it
-    module _ (g z : ℕ) (last : List ℕ) where
-      abbrev pub filled_in : List ℕ
-      filled_in = put_mid 5 (length (headed g z) - 5) (headed g z) last
-
-      pub filled_length : length last ≡ length (take (length (headed g z) - 5) (drop 5 (headed g z))) → length filled_in ≡ length out
-      filled_length k = same_len_mid 5 (length (headed g z) - 5) (headed g z) last k ∙ headed_length g z
-
-      -- and the length: the field
-      pub field_put : (e r h l : ℕ) → g ≡ 128 → z ≡ y → e ≡ get_or tab y 0 → r ≡ length (term_bytes sig pool tab 63 (e - 1)) → h ≡ (r + 2) / 256 → l ≡ (r + 2) % 256
-          → last ≡ front (term_bytes sig pool tab 63 (e - 1)) (take (length (headed g z) - 5) (drop 5 (headed g z)))
-          → set (set filled_in 1 h) 2 l ≡ front (part sig pool tab y) out
-      field_put e r h l gh zy ey rw₀ hh ll le =
-          ap (λ (x : List ℕ). set (set x 1 h) 2 l) (tail_back 5 (headed g z) last)
-          ∙ field_front out w last z g h l five gh (hh ∙ ap (λ (j : ℕ). (j + 2) / 256) size) (ll ∙ ap (λ (j : ℕ). (j + 2) % 256) size) written
-          ∙ ap (λ (j : ℕ). front (field j w) out) zy ∙ ap (λ (x : List ℕ). front x out) (sym (part_some sig pool tab y some))
-        where
-          w : List ℕ
-          w = term_bytes sig pool tab 63 (get_or tab y 0 - 1)
-
-          size : r ≡ length w
-          size = rw₀ ∙ ap (λ (j : ℕ). length (term_bytes sig pool tab 63 (j - 1))) ey
-
-          written : last ≡ front w (drop 5 out)
-          written = le ∙ ap (λ (x : List ℕ). front (term_bytes sig pool tab 63 (e - 1)) x) (tail_part (headed g z) 5 ∙ drop_five out g z)
-              ∙ ap (λ (j : ℕ). front (term_bytes sig pool tab 63 (j - 1)) (drop 5 out)) ey
+  -- the value written first, and the head before it
+  pub field_put : (out last head : List ℕ) → length (part sig pool tab y) ≤ length out → last ≡ front bound_bytes (take (length out - 5) (drop 5 out))
+      → head ≡ 16 ∷ (length bound_bytes + 2) / 256 ∷ (length bound_bytes + 2) % 256 ∷ 128 ∷ y ∷ []
+      → head ++ drop 5 (put_mid 5 (length out - 5) out last) ≡ front (part sig pool tab y) out
+  field_put out last head room back is =
+      let five : length (take 5 out) ≡ 5 = length-take-le 5 out (head_room out room) in
+      let behind : drop 5 (put_mid 5 (length out - 5) out last) ≡ front bound_bytes (drop 5 out) =
+      ap (drop 5) (tail_back 5 out last) ∙ drop_at (take 5 out) last 5 five ∙ back ∙ ap (front bound_bytes) (tail_part out 5) in
+      rw (is, behind) (head_front bound_bytes out y) ∙ ap (λ (x : List ℕ). front x out) (sym (part_some sig pool tab y some))

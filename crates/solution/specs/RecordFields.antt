@@ -1,7 +1,7 @@
 -- SCOPE.md, 'The solver's record': a field for each variable with a value, by ascending number.
 use Rattle.std.specs.Prelude.{◌≡◌, ◌≢◌, List, [], ◌∷◌, ◌++◌, drop, take, set}
 use Rattle.std.proofs.Math.Path.{refl}
-use Rattle.std.proofs.Common.{ap, ◌∙◌}
+use Rattle.std.proofs.Common.{ap, ◌∙◌, drop-drop}
 use Prim.Native.Nat.{ℕ, zero, suc, ◌+◌, ◌-◌, ◌*◌, ◌/◌, ◌%◌, ◌≤◌, ◌<◌}
 use native.Mathlib.Omega.{arith}
 use Rattle.std.proofs.Math.ListN.{length, get_or}
@@ -73,6 +73,13 @@ module _ (sig pool tab : List ℕ) where
       go : (e : ℕ) → get_or tab y 0 ≡ e → length (field_if y e (value_bytes y)) ≡ 5 + 2 * length (value sig pool tab 64 y)
       go zero q = absurd (n q)
       go (suc p) q = length_field y (value_bytes y) ∙ omega (arith, length_bytes (value sig pool tab 64 y))
+
+-- the head of a field written before its value
+pub head_front : (w out : List ℕ) (y : ℕ) → (16 ∷ (length w + 2) / 256 ∷ (length w + 2) % 256 ∷ 128 ∷ y ∷ []) ++ front w (drop 5 out) ≡ front (field y w) out
+unfolding field
+head_front w out y =
+    let e : 5 + length w ≡ length (field y w) = omega arith in
+    ap (λ (r : List ℕ). 16 ∷ (length w + 2) / 256 ∷ (length w + 2) % 256 ∷ 128 ∷ y ∷ w ++ r) (drop-drop (length w) 5 out ∙ ap (λ (k : ℕ). drop k out) e)
 
 -- the head of a field written around a value that is written after it
 pub field_front : (out w last : List ℕ) (y g a b : ℕ) → 5 ≤ length out → g ≡ 128

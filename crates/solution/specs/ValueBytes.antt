@@ -1,5 +1,5 @@
 -- SCOPE.md, 'The solver's record': values in bytes.
-use Rattle.std.specs.Prelude.{◌≡◌, refl, ◌⊎◌, ◌≢◌, List, [], ◌∷◌, ◌++◌, length, drop, take}
+use Rattle.std.specs.Prelude.{◌≡◌, refl, ◌⊎◌, ◌≢◌, List, [], ◌∷◌, ◌++◌, length, drop, take, Option, None, Some, SomeIff}
 use Rattle.std.proofs.Common.{sym, ◌∙◌, inl, inr, append-nil, lt-ltb, le-ltb}
 use Rattle.std.proofs.Math.Path.{ap}
 use Prim.Native.Nat.{ℕ, zero, suc, ◌+◌, ◌-◌, ◌/◌, ◌%◌, ◌≤◌, ◌<◌}
@@ -97,6 +97,15 @@ module _ (sig pool tab : List ℕ) where
   pub putting_end : (d p : ℕ) (out₀ out : List ℕ) (used o i : ℕ) → Putting d p out₀ out used o i → o ≡ 0 → Filled (term_bytes d p) out₀ out used
   unfolding bytes
   putting_end d p out₀ out used o i h z = fill_end (term_bytes d p) (rest d o i) out₀ out used (ap (λ l. bytes (app (value sig pool tab d) l)) (args_end sig pool o i z)) h.filling
+
+-- a node as the table of bindings has it: 0 for none, or one more
+abbrev pub plus_one : Option ℕ → ℕ
+plus_one None = 0
+plus_one (Some p) = p + 1
+
+pub plus_one_sub : (o : Option ℕ) (e : ℕ) → SomeIff o (1 ≤ e) (e - 1) → plus_one o ≡ e
+plus_one_sub None e h = let z : (1 ≤ e) → ⊥ = h in omega (arith, z)
+plus_one_sub (Some p) e h = omega (arith, h)
 
 -- where the item c leads, bindings followed d deep: 0, or one more than the node
 pub record Goes (tab : List ℕ) (c d r : ℕ) : Type 0 where

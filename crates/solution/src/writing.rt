@@ -1,28 +1,26 @@
 // The values in bytes, the fields and the record.
+// sig, pool and tab stay apart: a ghost field of theirs must be a bare fact, and `Given` holds a number.
 ghost use Rattle.std.specs.Prelude.{◌≡◌, ℕ, ◌≤◌, ◌<◌, length, get_or};
 ghost use Rattle.joining.specs.Run.{Given, BindingTable};
 ghost use Rattle.solution.specs.Values.{value};
 ghost use Rattle.solution.specs.Filling.{Filled};
-ghost use Rattle.solution.specs.ValueBytes.{item_bytes, term_bytes, Goes};
+ghost use Rattle.solution.specs.ValueBytes.{item_bytes, term_bytes, Goes, plus_one};
 ghost use Rattle.solution.specs.RecordFields.{part, record_bytes};
 ghost use Rattle.laws.specs.Sizes.{value_limit, written_end};
 
 use joining::opens;
-use laws::{VARIABLE, low, wide, wide16};
+use laws::VARIABLE;
 use variables::WrittenVariable;
 
-// Where the item c leads: one more than the node, or 0 for a symbol, a variable with no binding, or no levels left.
-fn bound_to(tab: &[u8; 64], c: usize, levels: usize) -> usize
+// Where the item c leads: the node, or none for a symbol, a variable with no binding, or no levels left.
+fn bound_to(tab: &[u8; 64], c: usize, levels: usize) -> Option<usize>
     requires { c < written_end }
-    ensures { Goes tab.now c levels result }
+    ensures { Goes tab.now c levels (plus_one result) }
 {
-    if c < VARIABLE {
-        return 0;
+    if c < VARIABLE || levels == 0 {
+        return None;
     }
-    if levels == 0 {
-        return 0;
-    }
-    wide(tab[WrittenVariable::of_item(c).index()])
+    (tab[WrittenVariable::of_item(c).index()] as usize).checked_sub(1)
 }
 
 // The value of the item c in bytes at the start of out; how many.
@@ -40,12 +38,10 @@ fn put_item(
     ensures { Filled (item_bytes sig.now pool.now tab.now levels c)
         out.old out.new result }
 {
-    let e = bound_to(tab, c, levels);
-    if e != 0 {
-        return put(sig, pool, tab, out, e - 1, levels - 1);
+    if let Some(node) = bound_to(tab, c, levels) {
+        return put(sig, pool, tab, out, node, levels - 1);
     }
-    out[0] = low(c / 256);
-    out[1] = low(c % 256);
+    out[..2].copy_from_slice(&(c as u16).to_be_bytes());
     2
 }
 
@@ -60,8 +56,9 @@ fn put(sig: &[u8], pool: &[u16], tab: &[u8; 64], out: &mut [u8], p: usize, level
     let mut opened: usize = 1;
     let mut i = p;
     let mut used: usize = 0;
+    // A while: the items' arities say where the term ends.
     while opened != 0 {
-        let c = wide16(pool[i]);
+        let c = pool[i] as usize;
         used += put_item(sig, pool, tab, &mut out[used..], c, levels);
         opened = opened - 1 + opens(sig, c);
         i += 1;
@@ -77,17 +74,14 @@ fn put_field(sig: &[u8], pool: &[u16], tab: &[u8; 64], out: &mut [u8], y: usize)
     ensures { Filled (part sig.now pool.now tab.now y) out.old
         out.new result }
 {
-    let e = wide(tab[y]);
-    let c = wide16(WrittenVariable(low(y)).item());
-    out[0] = 16;
-    out[3] = low(c / 256);
-    out[4] = low(c % 256);
-    let n = put(sig, pool, tab, &mut out[5..], e - 1, 63);
-    out[1] = low((n + 2) / 256);
-    out[2] = low((n + 2) % 256);
+    let n = put(sig, pool, tab, &mut out[5..], tab[y] as usize - 1, 63);
+    let size = ((n + 2) as u16).to_be_bytes();
+    let item = WrittenVariable(y as u8).item().to_be_bytes();
+    out[..5].copy_from_slice(&[16, size[0], size[1], item[0], item[1]]);
     n + 5
 }
 
+#[tactic(auto, using(crate::specs::RecordFields::part_none))]
 fn put_part(sig: &[u8], pool: &[u16], tab: &[u8; 64], out: &mut [u8], y: usize) -> usize
     requires { Given sig.now pool.now × BindingTable tab.now pool.now × (y < 64)
         × (length (part sig.now pool.now tab.now y) ≤ length out.old)
@@ -95,7 +89,7 @@ fn put_part(sig: &[u8], pool: &[u16], tab: &[u8; 64], out: &mut [u8], y: usize) 
     ensures { Filled (part sig.now pool.now tab.now y) out.old
         out.new result }
 {
-    if wide(tab[y]) == 0 {
+    if tab[y] == 0 {
         return 0;
     }
     put_field(sig, pool, tab, out, y)
@@ -109,11 +103,9 @@ pub fn put_record(sig: &[u8], pool: &[u16], tab: &[u8; 64], out: &mut [u8]) -> u
     ensures { Filled (record_bytes sig.now pool.now tab.now) out.old
         out.new result }
 {
-    let mut y: usize = 0;
     let mut used: usize = 0;
-    while y < 64 {
+    for y in 0..64 {
         used += put_part(sig, pool, tab, &mut out[used..], y);
-        y += 1;
     }
     used
 }

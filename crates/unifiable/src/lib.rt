@@ -5,9 +5,10 @@
 ghost use Rattle.std.specs.Prelude.{◌≡◌, length};
 ghost use Rattle.theory.specs.Relations.{Decided, Unifiable};
 ghost use Rattle.unifiable.specs.Pool.{Asked, Loaded, PairAnswer};
+ghost use Rattle.unify.specs.Solved.{code_of, table_of};
 
 use items::load;
-use unify::{Outcome, unify};
+use unify::{Apart, unify};
 use variables::Bank;
 
 // Both terms into the pool, the stored one first; where the question begins.
@@ -20,10 +21,10 @@ pub fn load_both(sig: &[u8], pool: &mut [u16], stored: &[u8], question: &[u8]) -
     m
 }
 
-// The bindings that make the stored term and the question the same, or code 1 or 2.
-fn solve(sig: &[u8], stored: &[u8], question: &[u8]) -> Outcome
+// The bindings that make the stored term and the question the same.
+fn solve(sig: &[u8], stored: &[u8], question: &[u8]) -> Result<[u8; 64], Apart>
     requires { Asked sig.now stored.now question.now }
-    ensures { PairAnswer sig.now stored.now question.now result.code result.tab }
+    ensures { PairAnswer sig.now stored.now question.now (code_of result) (table_of result) }
 {
     let mut pool = [0u16; 64];
     let m = load_both(sig, &mut pool, stored, question);
@@ -36,6 +37,5 @@ pub fn unifiable(sig: &[u8], stored: &[u8], question: &[u8]) -> bool
     requires { Asked sig.now stored.now question.now }
     ensures { Decided result (Unifiable sig.now stored.now question.now) }
 {
-    let u = solve(sig, stored, question);
-    u.code == 0
+    solve(sig, stored, question).is_ok()
 }

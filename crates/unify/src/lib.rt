@@ -1,14 +1,29 @@
 // Unification of two terms, by nodes: a node is an item of `pool`, which holds the terms one after another.
 #![tactic(auto)]
 
-ghost use Rattle.std.specs.Prelude.{◌≡◌, ℕ, ◌^◌, ◌<◌, length, get_or};
+ghost use Rattle.std.specs.Prelude.{◌≡◌, ℕ, ◌+◌, ◌-◌, ◌^◌, ◌<◌, ◌≤◌, length, get_or, MatchOption};
 ghost use Rattle.joining.specs.Run.{Given, BindingTable, Led, UnifierEnds};
 ghost use Rattle.unify.specs.Face.{Faced};
-ghost use Rattle.laws.specs.Sizes.{written_end};
+ghost use Rattle.unify.specs.Solved.{code_of, table_of};
+ghost use Rattle.laws.specs.Sizes.{variable_base, written_end};
 
-use joining::{bind, merge, pair};
-use laws::{VARIABLE, low, wide, wide16};
+use joining::{Pending, bind, merge};
+use laws::VARIABLE;
+use std::array;
 use variables::WrittenVariable;
+
+// The node that the item c is bound to: none of a symbol.
+fn bound(tab: &[u8; 64], c: usize) -> Option<usize>
+    requires { c < written_end }
+    ensures { MatchOption result
+        (variable_base ≤ c → get_or tab.now (c - variable_base) 0 ≡ 0)
+        (λ e. (variable_base ≤ c) × (get_or tab.now (c - variable_base) 0 ≡ e + 1)) }
+{
+    if c < VARIABLE {
+        return None;
+    }
+    (tab[WrittenVariable::of_item(c).index()] as usize).checked_sub(1)
+}
 
 // Where bindings lead from p.
 fn deref(tab: &[u8; 64], pool: &[u16], p: usize) -> usize
@@ -17,20 +32,14 @@ fn deref(tab: &[u8; 64], pool: &[u16], p: usize) -> usize
     ensures { Led tab.now pool.now p result }
 {
     let mut r = p;
-    loop {
-        let c = wide16(pool[r]);
-        if c < VARIABLE {
-            return r;
-        }
-        let e = wide(tab[WrittenVariable::of_item(c).index()]);
-        if e == 0 {
-            return r;
-        }
-        r = e - 1;
+    while let Some(next) = bound(tab, pool[r] as usize) {
+        r = next;
     }
+    r
 }
 
-#[derive(Drop)]
+// Two nodes that no binding leads on from, face to face.
+#[derive(Clone, Copy)]
 enum Face {
     Same,
     Clash,
@@ -43,83 +52,69 @@ fn meet(pool: &[u16], p: usize, r: usize) -> Face
         × ((k : ℕ) → k < length pool.now → get_or pool.now k 0 < written_end) }
     ensures { Faced pool.now p r result }
 {
+    let a = pool[p] as usize;
+    let b = pool[r] as usize;
     if p == r {
-        return Face::Same;
-    }
-    let a = wide16(pool[p]);
-    let b = wide16(pool[r]);
-    if a == b {
+        Face::Same
+    } else if a == b {
         if a < VARIABLE {
-            return Face::Merge;
+            Face::Merge
+        } else {
+            Face::Same
         }
-        return Face::Same;
+    } else if a.max(b) < VARIABLE {
+        Face::Clash
+    } else if a < b {
+        Face::Bind(WrittenVariable::of_item(b), p)
+    } else {
+        Face::Bind(WrittenVariable::of_item(a), r)
     }
-    if a < b {
-        if b < VARIABLE {
-            return Face::Clash;
-        }
-        return Face::Bind(WrittenVariable::of_item(b), p);
-    }
-    if a < VARIABLE {
-        return Face::Clash;
-    }
-    Face::Bind(WrittenVariable::of_item(a), r)
 }
 
-// Each variable in its own set, each node in its own class.
-fn start(masks: &mut [u64; 64], cls: &mut [u8; 64])
-    requires { (length masks.old ≡ 64) × (length cls.old ≡ 64) }
-    ensures { (length masks.new ≡ 64) × (length cls.new ≡ 64)
-        × ((y : ℕ) → y < 64 → get_or masks.new y 0 ≡ 2 ^ y)
-        × ((y : ℕ) → y < 64 → get_or cls.new y 0 ≡ y) }
+// Each variable in its own set.
+fn own_sets() -> [u64; 64]
+    ensures { ((y : ℕ) → y < 64 → get_or result y 0 ≡ 2 ^ y) }
 {
-    let mut i: usize = 0;
-    while i < 64 {
-        masks[i] = 1u64 << i;
-        cls[i] = low(i);
-        i += 1;
-    }
+    array::from_fn(|y| 1 << y)
 }
 
-#[derive(Clone, Copy)]
-pub struct Outcome {
-    pub code: u8,
-    pub tab: [u8; 64],
+// Each node in its own class.
+fn own_classes() -> [u8; 64]
+    ensures { ((i : ℕ) → i < 64 → get_or result i 0 ≡ i) }
+{
+    array::from_fn(|i| i as u8)
 }
 
-// Whether the terms at 0 and at root unify, by Robinson's method: code 1 for a clash, 2 for a circle, else 0,
-// and in `tab` for each variable 0 or one more than the node that it is bound to.
-pub fn unify(sig: &[u8], pool: &[u16], root: usize) -> Outcome
+// Why two terms do not unify: two symbols that differ, or a variable in its own value.
+#[derive(Clone, Copy, Debug, PartialEq, Eq)]
+pub enum Apart {
+    Clash,
+    Circle,
+}
+
+// Whether the terms at 0 and at root unify, by Robinson's method: for each variable 0 or one more than the node that it
+// is bound to. A number, not an Option: so the theorems read the table (`BindingTable`), in half the bytes.
+pub fn unify(sig: &[u8], pool: &[u16], root: usize) -> Result<[u8; 64], Apart>
     requires { Given sig.now pool.now × (root < length pool.now) }
-    ensures { UnifierEnds sig.now pool.now root result.code result.tab }
+    ensures { UnifierEnds sig.now pool.now root (code_of result) (table_of result) }
 {
     let mut tab = [0u8; 64];
-    let mut masks = [0u64; 64];
-    let mut cls = [0u8; 64];
-    let mut stack = [0u16; 512];
-    start(&mut masks, &mut cls);
-    stack[0] = pair(0, root);
-    let mut n: usize = 1;
-    while n != 0 {
-        n -= 1;
-        let e = wide16(stack[n]);
-        let p = deref(&tab, pool, e / 64);
-        let r = deref(&tab, pool, e % 64);
-        let f = meet(pool, p, r);
-        match f {
+    let mut masks = own_sets();
+    let mut cls = own_classes();
+    let mut pending = Pending::one(0, root);
+    while let Some((left, right)) = pending.pop() {
+        let p = deref(&tab, pool, left);
+        let r = deref(&tab, pool, right);
+        match meet(pool, p, r) {
             Face::Same => {}
-            Face::Clash => {
-                return Outcome { code: 1, tab: tab };
-            }
+            Face::Clash => return Err(Apart::Clash),
             Face::Bind(x, u) => {
                 if !bind(sig, pool, &mut tab, &mut masks, x, u) {
-                    return Outcome { code: 2, tab: tab };
+                    return Err(Apart::Circle);
                 }
             }
-            Face::Merge => {
-                n = merge(sig, pool, &mut cls, &mut stack, n, p, r);
-            }
+            Face::Merge => merge(sig, pool, &mut cls, &mut pending, p, r),
         }
     }
-    Outcome { code: 0, tab: tab }
+    Ok(tab)
 }

@@ -1,6 +1,9 @@
-use Prim.Native.Nat.{◌-◌}
+use Prim.Native.Nat.{◌+◌, ◌-◌}
 use mathlib.Core.Path.{sym, ◌∙◌}
 use native.Mathlib.Omega.{arith}
+use borrow.Author.Tests.{eqb-true, eqb-false}
+use lib.Dec.{eqb}
+use Rattle.matching.proofs.MatchingLaws.{stepped_if}
 use Rattle.matching.specs.Going.{going_in}
 use Rattle.matching.specs.Steps.{stepped_clash, stepped_symbol, stepped_agrees, stepped_differs}
 use Rattle.laws.specs.Sizes.{variable_base}
@@ -10,15 +13,13 @@ pub number_at-requires : goal.number_at-requires
 number_at-requires c = let a = c.args in
     omega (arith, going_in a.sig.now a.pattern.now a.target.now a.tab.now a.i a.j c.requires.3 c.requires.2)
 
-pub returns-then-number_at-c : goal.returns-then-number_at-c
-returns-then-number_at-c c = let a = c.args in
-    stepped_clash a.sig.now a.pattern.now a.target.now a.tab.now a.i a.j c.requires.3 c.requires.2 (rw c.number_at-c.ensures.0 at c.if-c-lt-VARIABLE.true)
-    (λ e. c.if-number_at-c.true (c.number_at.ensures.0 ∙ e ∙ sym c.number_at-c.ensures.0))
-
 pub returns-then-c-lt-VARIABLE : goal.returns-then-c-lt-VARIABLE
 returns-then-c-lt-VARIABLE c = let a = c.args in
-    stepped_symbol a.sig.now a.pattern.now a.target.now a.tab.now a.i a.j c.requires.3 c.requires.2 (rw c.number_at-c.ensures.0 at c.if-c-lt-VARIABLE.true)
-    (sym c.number_at.ensures.0 ∙ c.if-number_at-c.false ∙ c.number_at-c.ensures.0)
+    rw c.then_some.ensures (stepped_if a.sig.now a.pattern.now a.target.now a.tab.now a.tab.now a.i a.j (a.j + 1) (eqb c.number_at.result c.number_at-c.result)
+    (λ e. stepped_symbol a.sig.now a.pattern.now a.target.now a.tab.now a.i a.j c.requires.3 c.requires.2 (omega arith)
+    (sym c.number_at.ensures.0 ∙ eqb-true _ _ e ∙ c.number_at-c.ensures.0))
+    (λ e. stepped_clash a.sig.now a.pattern.now a.target.now a.tab.now a.i a.j c.requires.3 c.requires.2 (omega arith)
+    (λ h. eqb-false c.number_at.result c.number_at-c.result e (c.number_at.ensures.0 ∙ h ∙ sym c.number_at-c.ensures.0))))
 
 pub end_of-e-requires : goal.end_of-e-requires
 end_of-e-requires c = let a = c.args in
@@ -35,12 +36,11 @@ agrees-requires c = let a = c.args in
       λ q z. (rw z at (g.table (c.number_at-c.result - variable_base))).0,
     )
 
-pub returns-then-agrees : goal.returns-then-agrees
-returns-then-agrees c = let a = c.args in
-    stepped_agrees a.sig.now a.pattern.now a.target.now a.tab.now a.i a.j c.requires.3 c.requires.2 (rw c.number_at-c.ensures.0 at c.if-c-lt-VARIABLE.false)
-    (omega (arith, c.requires.0.named a.i c.requires.2)) _ c.end_of-e.result c.end_of-e.ensures c.agrees.result (rw c.number_at-c.ensures.0 at c.agrees.ensures) c.if-agrees.true
-
 pub returns : goal.returns
 returns c = let a = c.args in
-    stepped_differs a.sig.now a.pattern.now a.target.now a.tab.now a.i a.j c.requires.3 c.requires.2 (rw c.number_at-c.ensures.0 at c.if-c-lt-VARIABLE.false)
-    (omega (arith, c.requires.0.named a.i c.requires.2)) _ c.end_of-e.result c.end_of-e.ensures c.agrees.result (rw c.number_at-c.ensures.0 at c.agrees.ensures) c.if-agrees.false
+    let f = rw c.number_at-c.ensures.0 at c.agrees.ensures in
+    rw c.then_some-2.ensures (stepped_if a.sig.now a.pattern.now a.target.now a.tab.now _ a.i a.j c.end_of-e.result c.agrees.result
+    (stepped_agrees a.sig.now a.pattern.now a.target.now a.tab.now a.i a.j c.requires.3 c.requires.2 (omega arith)
+    (omega (arith, c.requires.0.named a.i c.requires.2)) _ c.end_of-e.result c.end_of-e.ensures c.agrees.result f)
+    (stepped_differs a.sig.now a.pattern.now a.target.now a.tab.now a.i a.j c.requires.3 c.requires.2 (omega arith)
+    (omega (arith, c.requires.0.named a.i c.requires.2)) _ c.end_of-e.result c.end_of-e.ensures c.agrees.result f))

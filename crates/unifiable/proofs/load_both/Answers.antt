@@ -3,19 +3,10 @@ use mathlib.Core.Path.{ap, ◌∙◌}
 use mathlib.Core.List.{List}
 use native.Mathlib.Omega.{arith}
 use lib.ListN.{length}
-use lib.Seq.{sets, length-sets}
+use lib.Seq.{sets}
 use Rattle.items.specs.Decoding.{decoded}
 use Rattle.unifiable.specs.Pool.{loads}
 use Rattle.unifiable.proofs.load_both.Goals as goal
-
-pub load-m-requires : goal.load-m-requires
-load-m-requires c = let A = c.requires.1 in omega (arith, c.requires.0, A.stored.short)
-
-pub load-requires : goal.load-requires
-load-requires c = let a = c.args in
-    let A = c.requires.1 in
-    let e = c.load-m.ensures in
-    omega (arith, e.0, ap length e.1, length-sets a.pool.now 0 (decoded 0 a.stored.now), c.requires.0, A.stored.short, A.question.short)
 
 pub returns : goal.returns
 returns c = let a = c.args in

@@ -3,8 +3,8 @@ use Rattle.joining.specs.Classes.{reps}
 use Rattle.joining.specs.Run.{UnifierState}
 use Rattle.unify.proofs.unify.Given as goal
 
-abbrev pub invariant-loop-n : goal.invariant-loop-n
-invariant-loop-n l = UnifierState l.sig l.pool l.root l.stack l.n l.tab l.masks l.cls
+abbrev pub invariant-loop-left : goal.invariant-loop-left
+invariant-loop-left l = UnifierState l.sig l.pool l.root l.pending.pairs l.pending.count l.tab l.masks l.cls
 
-abbrev pub decreases-loop-n : goal.decreases-loop-n
-decreases-loop-n l = 8 * reps l.cls + l.n
+abbrev pub decreases-loop-left : goal.decreases-loop-left
+decreases-loop-left l = 8 * reps l.cls + l.pending.count

@@ -1,43 +1,18 @@
-use Prim.Native.Nat.{ℕ}
-use mathlib.Core.Path.{◌≡◌, refl, subst}
-use native.Mathlib.Omega.{arith}
-use lib.ListN.{replicate}
-use Rattle.solution.specs.Values.{Sizes, sizes_start, sizes_step, sizes_last}
+use Rattle.std.proofs.Common.{ap, arith, replicate, get_or, ℕ, ◌≡◌, List}
+use Rattle.std.proofs.lemmas.Bool.Decides.{Decides-eqb}
+use Rattle.std.proofs.lemmas.Slice.Eq.{slice_eq-Decides}
+use Rattle.solution.specs.Values.{sizes_start, sizes_step, sizes_last}
 use Rattle.solution.proofs.SolutionLaws.{ones_at}
 use Rattle.solution.proofs.counting.sizes.Goals as goal
 
-pub loop-r-init : goal.loop-r-init
-loop-r-init c = let s = c in
-    let sig = s.args.sig.now in
-    let pool = s.args.pool.now in
-    let tab = s.args.tab.now in
-    (omega arith, sizes_start sig pool tab (replicate 64 1) (ones_at 64))
+pub loop-init : goal.loop-init
+loop-init c = sizes_start c.args.sig.now c.args.pool.now c.args.tab.now (replicate 64 1) (ones_at 64)
 
-pub round-d-requires : goal.round-d-requires
-round-d-requires c = let s = c in
-    (s.requires.0, s.requires.1, refl)
+pub returns-then-eq : goal.returns-then-eq
+returns-then-eq c = let a = c.args in
+    let same : c.round-new.result ≡ c.loop.old = (slice_eq-Decides Decides-eqb _ _ _ c.eq.ensures).0 c.if-eq.true in
+    sizes_last a.sig.now a.pool.now a.tab.now c.requires.0 c.loop.counter c.loop.old c.round-new.result (omega (arith, c.loop-test.true)) c.loop.invariant c.round-new.ensures (λ y b. ap (λ (l : List ℕ). get_or l y 0) same)
 
-pub returns-then-d-eq0 : goal.returns-then-d-eq0
-returns-then-d-eq0 c = let s = c in
-    let sig = s.args.sig.now in
-    let pool = s.args.pool.now in
-    let tab = s.args.tab.now in
-    let l = c.loop-r in
-    sizes_last sig pool tab s.requires.0 l.r l.old c.round-d.new.new l.invariant.0 l.invariant.1 c.round-d.ensures.0 (c.round-d.ensures.1 c.if-d-eq0.true)
-
-pub loop-r-preserved : goal.loop-r-preserved
-loop-r-preserved c = let s = c in
-    let sig = s.args.sig.now in
-    let pool = s.args.pool.now in
-    let tab = s.args.tab.now in
-    let l = c.loop-r in
-    (omega arith, sizes_step sig pool tab s.requires.0 l.r l.old c.round-d.new.new l.invariant.1 c.round-d.ensures.0)
-
-pub returns : goal.returns
-returns c = let s = c in
-    let sig = s.args.sig.now in
-    let pool = s.args.pool.now in
-    let tab = s.args.tab.now in
-    let l = c.loop-r in
-    let e : l.r ≡ 64 = omega (arith, l.invariant.0, c.loop-r-test.false) in
-    subst (λ (k : ℕ). Sizes sig pool tab k l.old) e l.invariant.1
+pub loop-preserved : goal.loop-preserved
+loop-preserved c = let a = c.args in
+    sizes_step a.sig.now a.pool.now a.tab.now c.requires.0 c.loop.counter c.loop.old c.round-new.result c.loop.invariant c.round-new.ensures

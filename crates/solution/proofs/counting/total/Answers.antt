@@ -1,29 +1,22 @@
-use Prim.Native.Nat.{ℕ, ◌+◌, ◌-◌}
-use mathlib.Core.Path.{◌≡◌, ap}
-use native.Mathlib.Omega.{arith}
-use Rattle.solution.specs.Totals.{total_from, total_turn, total_end}
+use Rattle.std.proofs.Common.{arith, rules, ◌∙◌, ◌≤◌, ◌^◌, length, sym}
+use Rattle.std.specs.List.{zip}
+use Rattle.std.proofs.lemmas.Iterator.{YieldsList-from_map, YieldsList-from_zip, YieldsList-from_slice}
+use Rattle.std.proofs.lemmas.Iterator.Adapters.{fits_from_length, at_most_from_yields_List}
+use Rattle.std.proofs.lemmas.Iterator.Consumers.{YieldsList-at, sum_by_from_yields_List}
+use Rattle.std.proofs.lemmas.Slice.Zip.{length-zip}
+use Rattle.solution.proofs.SolutionLaws.{pair_bytes, total_sum_by}
 use Rattle.solution.proofs.counting.total.Goals as goal
 
-pub part_size-n-requires : goal.part_size-n-requires
-part_size-n-requires c = c.loop-y-test.true
-
-pub overflow_add-n : goal.overflow_add-n
-overflow_add-n c = let l = c.loop-y in
-    omega (arith, l.invariant.1, c.part_size-n.ensures.1, c.loop-y-test.true)
-
-pub loop-y-preserved : goal.loop-y-preserved
-loop-y-preserved c = let s = c in
-    let tab = s.args.tab.now in
-    let sz = s.args.sz.now in
-    let l = c.loop-y in
-    let t = c.loop-y-test.true in
-    let e = total_turn tab sz (64 - l.y) l.y (λ z. omega (arith, z, t)) in
-    let j : 64 - l.y - 1 ≡ 64 - (l.y + 1) = omega arith in
-    (omega arith, omega (arith, l.invariant.1, c.part_size-n.ensures.1), omega (arith, l.invariant.2, e, c.part_size-n.ensures.0, ap (λ (k : ℕ). total_from tab sz k (l.y + 1)) j))
+pub sum-requires-clause-fits : goal.sum-requires-clause-fits
+sum-requires-clause-fits c =
+    let tab = c.args.tab.now in
+    let sz = c.args.sz.now in
+    let few : length (zip tab sz) ≤ 64 = omega (arith, length-zip tab sz, c.told-tab) in
+    fits_from_length _ _ 64 (2 ^ 64) (at_most_from_yields_List (YieldsList-at c.map.ensures.source (YieldsList-from_zip (YieldsList-from_slice tab cc) (YieldsList-from_slice sz cc))) few) c.map.ensures.closure (omega arith) (λ x r q k. search rules)
 
 pub returns : goal.returns
-returns c = let s = c in
-    let tab = s.args.tab.now in
-    let sz = s.args.sz.now in
-    let l = c.loop-y in
-    omega (arith, l.invariant.2, total_end tab sz (64 - l.y) l.y (omega (arith, c.loop-y-test.false)))
+returns c =
+    let tab = c.args.tab.now in
+    let sz = c.args.sz.now in
+    sum_by_from_yields_List pair_bytes (zip tab sz) c.map.result _ c.sum.ensures.ran (YieldsList-from_map _ pair_bytes (YieldsList-at c.map.ensures.source (YieldsList-from_zip (YieldsList-from_slice tab cc) (YieldsList-from_slice sz cc))) c.map.ensures.closure (λ x r q k. search rules))
+    ∙ sym (total_sum_by tab sz 64 0 (sym c.told-tab) (c.told-sz ∙ sym c.told-tab))

@@ -1,15 +1,13 @@
 use Prim.Native.Nat.{ℕ, ◌+◌, ◌-◌, ◌≤◌, ◌<◌}
-use mathlib.Core.Path.{◌≡◌, ap, ◌∙◌}
 use mathlib.Core.List.{List}
 use mathlib.Core.Logic.{◌≢◌}
 use native.Mathlib.Omega.{arith}
-use lib.ListN.{length, get_or, drop, take, length-drop}
+use lib.ListN.{length, get_or, length-drop}
 use borrow.Rule.Slice.PartMut.{put_mid}
 use Rattle.laws.proofs.Lists.{tail_part}
 use Rattle.theory.specs.ItemWalk.{walk_start, walk_low}
 use Rattle.joining.specs.Sums.{given_begins}
-use Rattle.solution.specs.Filling.{front}
-use Rattle.solution.specs.ValueBytes.{item_bytes, term_bytes, Putting, putting_start, putting_room, putting_turn, putting_end, goes_inside}
+use Rattle.solution.specs.ValueBytes.{item_bytes, term_bytes, Putting, putting_start, putting_room, putting_turn, putting_end}
 use Rattle.solution.proofs.SolutionLaws.{tail_front}
 use Rattle.solution.proofs.writing.+put_put_item.Goals as goal
 
@@ -28,54 +26,26 @@ put-loop-opened-init t c = let a = c.args in
     let G = c.requires.0 in
     putting_start a.sig.now a.pool.now a.tab.now a.levels a.p a.out.now (walk_start a.sig.now a.pool.now a.p (given_begins a.sig.now a.pool.now G a.p c.requires.2) c.requires.2)
 
-pub put-offset_bounds-pool-i : goal.put-offset_bounds-pool-i
-put-offset_bounds-pool-i t c = omega (arith, low c.loop-opened.invariant c.loop-opened-test.true, c.requires.0.short)
-
-pub put-bounds-pool-i : goal.put-bounds-pool-i
-put-bounds-pool-i t c = (low c.loop-opened.invariant c.loop-opened-test.true).1
-
-pub put-slice_bounds-put_item-count : goal.put-slice_bounds-put_item-count
-put-slice_bounds-put_item-count t c = omega (arith, fits c.loop-opened.invariant c.loop-opened-test.true c.requires.3)
-
-pub put-slice_bounds-put_item-start : goal.put-slice_bounds-put_item-start
-put-slice_bounds-put_item-start t c = omega (arith, fits c.loop-opened.invariant c.loop-opened-test.true c.requires.3)
-
 pub put-put_item-used-requires : goal.put-put_item-used-requires
 put-put_item-used-requires t c = let a = c.args in
     let G = c.requires.0 in
     let l = c.loop-opened in
-    let code = c.wide16-c.ensures.0 in
     let i = low l.invariant c.loop-opened-test.true in
-    (omega (arith, c.decreases), (G, c.requires.1, omega (arith, code, G.named l.i i.1), rw (code, tail_part l.out l.used) (omega (arith, fits l.invariant c.loop-opened-test.true c.requires.3, length-drop l.used l.out))))
+    (omega (arith, c.decreases), (G, c.requires.1, G.named l.i i.1, rw (tail_part l.out l.used) (omega (arith, fits l.invariant c.loop-opened-test.true c.requires.3, length-drop l.used l.out))))
 
 pub put-overflow_add-opened : goal.put-overflow_add-opened
 put-overflow_add-opened t c = omega (arith, low c.loop-opened.invariant c.loop-opened-test.true, c.requires.0.short, c.opens.ensures.1)
-
-pub put-overflow_add-i : goal.put-overflow_add-i
-put-overflow_add-i t c = omega (arith, low c.loop-opened.invariant c.loop-opened-test.true, c.requires.0.short)
-
-pub put-loop-opened-smaller : goal.put-loop-opened-smaller
-put-loop-opened-smaller t c = omega (arith, low c.loop-opened.invariant c.loop-opened-test.true)
 
 pub put-loop-opened-preserved : goal.put-loop-opened-preserved
 put-loop-opened-preserved t c = let a = c.args in
     let l = c.loop-opened in
     let k = c.put_item-used in
     let bytes : ℕ → List ℕ = item_bytes a.sig.now a.pool.now a.tab.now a.levels in
-    let code = c.wide16-c.ensures.0 in
-    let size : k.result ≡ length (bytes (get_or a.pool.now l.i 0)) = k.ensures.0 ∙ ap (λ (j : ℕ). length (bytes j)) code in
     let last = k.new.out in
-    let b = tail_front l.used l.out last (bytes (get_or a.pool.now l.i 0)) k.auto.out (k.ensures.1 ∙ ap (λ (j : ℕ). front (bytes j) (take (length l.out - l.used) (drop l.used l.out))) code) in
-    rw (size, c.opens.ensures.0, code) (putting_turn a.sig.now a.pool.now a.tab.now a.levels a.p a.out.now l.out l.used l.opened l.i l.invariant c.loop-opened-test.true (low l.invariant c.loop-opened-test.true).1 (put_mid l.used (length l.out - l.used) l.out last) b.0 b.1)
+    let b = tail_front l.used l.out last (bytes (get_or a.pool.now l.i 0)) k.auto.out k.ensures.1 in
+    rw (k.ensures.0, c.opens.ensures.0) (putting_turn a.sig.now a.pool.now a.tab.now a.levels a.p a.out.now l.out l.used l.opened l.i l.invariant c.loop-opened-test.true (low l.invariant c.loop-opened-test.true).1 (put_mid l.used (length l.out - l.used) l.out last) b.0 b.1)
 
 pub put-returns : goal.put-returns
 put-returns t c = let a = c.args in
     let l = c.loop-opened in
     putting_end a.sig.now a.pool.now a.tab.now a.levels a.p a.out.now l.out l.used l.opened l.i l.invariant c.loop-opened-test.false
-
-pub put_item-put-requires : goal.put_item-put-requires
-put_item-put-requires t c = let a = c.args in
-    let e = c.bound_to-e in
-    let n = c.if-e-ne0.true in
-    let b = e.ensures.bound n in
-    (omega (arith, c.decreases, b.0), (c.requires.0, c.requires.1, goes_inside a.tab.now a.pool.now a.c a.levels e.result e.ensures c.requires.1 n, rw (← b.1 a.sig.now a.pool.now) c.requires.3))
