@@ -1,13 +1,13 @@
 -- The ends of the terms, one after another from the last item to the first; the arguments of a term, one after another.
-use Prim.Native.Nat.{ℕ, zero, suc, ◌+◌, ◌-◌, ◌*◌, ◌/◌, ◌≤◌, ◌<◌}
+use Prim.Native.Nat.{ℕ, suc, ◌+◌, ◌-◌, ◌*◌, ◌/◌, ◌≤◌, ◌<◌}
 use mathlib.Core.Path.{◌≡◌, refl, sym, ap, ◌∙◌}
 use mathlib.Core.List.{List}
 use mathlib.Core.Bool.{Bool, true, false}
 use native.Mathlib.Decide.{ℕ_discrete}
 use native.Mathlib.Omega.{arith}
-use native.Mathlib.Numerals.{add-one, sub-one}
-use borrow.Author.Tests.{le-leb, lt-leb, ne_eqb}
-use lib.ListN.{length, get_or, set, take, drop}
+use native.Mathlib.Numerals.{add-one}
+use borrow.Author.Tests.{le-leb, lt-leb}
+use lib.ListN.{length, get_or, set, take, drop, replicate}
 use lib.Seq.{get_or-set_same, get_or-set_other, sets, sets-eq, length-sets, take-append_seam}
 use Rattle.terms.specs.Terms.{numbers}
 use Rattle.terms.proofs.TermLaws.{length_numbers}
@@ -17,13 +17,12 @@ use Rattle.keys.specs.Keys.{Args, node}
 use Rattle.chains.specs.Chains.{find}
 use Rattle.keysets.specs.KeySets.{Sets, met}
 use Rattle.paths.specs.Rep.{lab}
-use Rattle.definitions.specs.Candidates.{opens, stars}
 use Rattle.definitions.specs.Trees.{firsts, arguments_after, forest, top, tree_of}
 use Rattle.candidates.specs.Ends.{EndsFrom, Ended}
 use Rattle.candidates.specs.Forests.{others_one, forest_next, forest_top, kids_done, kids_turn}
 use Rattle.candidates.specs.Narrow.{Narrowed}
 use Rattle.candidates.specs.Walk.{having, walk, walk_all}
-use Rattle.laws.specs.Sizes.{root_place, variable_base}
+use Rattle.laws.specs.Sizes.{key_limit, root_place, variable_base}
 use Rattle.terms.specs.Terms.{arity}
 
 pub ends_turn : (ends : List ℕ) (n i v : ℕ) → i < length ends → EndsFrom (i + 1) n ends → i < v → v ≤ n → EndsFrom i n (set ends i v)
@@ -44,32 +43,24 @@ ended_turn sig items ends i v h p q j l m = go (ℕ_discrete j i)
 pub after_start : (sig items : List ℕ) (i a : ℕ) → i < length items → a ≡ arity sig (get_or items i 0) → arguments_after a (forest sig (drop (i + 1) items)) ≡ arguments_after 1 (forest sig (drop i items))
 after_start sig items i a h e = rw e (sym (forest_next sig items i h))
 
-pub after_turn : (sig items ends : List ℕ) (from a e w : ℕ) (r : Args) → 0 < a → from ≤ e → e < length items → Ended from sig items ends → w ≡ get_or ends e 0 → arguments_after a (forest sig (drop e items)) ≡ r
-    → arguments_after (a - 1) (forest sig (drop w items)) ≡ r
-after_turn sig items ends from zero e w r p l h d q z = absurd (omega arith)
-after_turn sig items ends from (suc a) e w r p l h d q z =
-    rw (sub-one, q, d e l h) (sym (others_one a (forest sig (drop e items))) ∙ z)
+pub after_turn : (sig items ends : List ℕ) (from a b e : ℕ) (r : Args) → a ≡ b + 1 → from ≤ e → e < length items → Ended from sig items ends → arguments_after a (forest sig (drop e items)) ≡ r
+    → arguments_after b (forest sig (drop (get_or ends e 0) items)) ≡ r
+after_turn sig items ends from a b e r p l h d z =
+    let s : a ≡ suc b = omega arith in
+    rw (d e l h) (sym (others_one b (forest sig (drop e items))) ∙ (rw s at z))
 
 pub after_done : (sig items : List ℕ) (a e : ℕ) (r : Args) → a ≡ 0 → arguments_after a (forest sig (drop e items)) ≡ r → forest sig (drop e items) ≡ r
 unfolding arguments_after
 after_done sig items a e r p z = rw p at z
 
--- the rule of a relation, by its number
-pub rule_two : (r : ℕ) → r ≡ 2 → (true ≡ opens r) × (false ≡ stars r)
-rule_two r e = rw e (refl, refl)
-
-pub rule_three : (r : ℕ) → r ≡ 3 → (false ≡ opens r) × (true ≡ stars r)
-rule_three r e = rw e (refl, refl)
-
-pub rule_four : (r : ℕ) → r ≡ 4 → (true ≡ opens r) × (true ≡ stars r)
-rule_four r e = rw e (refl, refl)
-
-pub rule_other : (r : ℕ) → (r ≡ 2 → ⊥) → (r ≡ 3 → ⊥) → (r ≡ 4 → ⊥) → (false ≡ opens r) × (false ≡ stars r)
-rule_other r a b d = rw (ne_eqb r 2 a, ne_eqb r 3 b, ne_eqb r 4 d) (refl, refl)
-
 module _ (link label : List ℕ) (σ : Sets) where
   pub having_is : (n e w k : ℕ) (ws r : List ℕ) → w ≡ lab n e → k ≡ find link label w → r ≡ met σ k ws → r ≡ having link label σ n e ws
   having_is n e w k ws r p q z = z ∙ ap (λ (i : ℕ). met σ i ws) (q ∙ ap (find link label) p)
+
+  -- no key, no slot
+  pub having_none : (n e w : ℕ) (ws r : List ℕ) → w ≡ lab n e → key_limit ≡ find link label w → r ≡ replicate 8 0 → r ≡ having link label σ n e ws
+  unfolding met
+  having_none n e w ws r p q z = z ∙ ap (λ (i : ℕ). met σ i ws) (q ∙ ap (find link label) p)
 
   module _ (qv tv : Bool) where
     walk_symbol : (x : ℕ) (us : Args) (n : ℕ) (ws : List ℕ) → x < variable_base

@@ -4,4 +4,5 @@ pub mod Has
 pub mod CandidatesMean
 pub mod Narrow
 pub mod None
+pub mod Tables
 pub mod Walk

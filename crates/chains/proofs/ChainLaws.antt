@@ -42,9 +42,9 @@ found_out link label w (suc f) x e = absurd (omega arith)
 pub found_hit : (link label : List ℕ) (w f x : ℕ) → 0 < f → (x ≡ 0 → ⊥) → get_or label ((x - 1) % key_limit) 0 ≡ w → found_from link label w f x ≡ (x - 1) % key_limit
 found_hit link label w f x h n e = rw (eq-eqb _ _ e) at (found_step link label w f x h n)
 
-pub found_miss : (link label : List ℕ) (w f x : ℕ) → 0 < f → (x ≡ 0 → ⊥) → (get_or label ((x - 1) % key_limit) 0 ≡ w → ⊥)
-    → found_from link label w f x ≡ found_from link label w (f - 1) (get_or link ((x - 1) % key_limit) 0)
-found_miss link label w f x h n e = rw (ne_eqb _ _ e) at (found_step link label w f x h n)
+pub found_miss : (link label : List ℕ) (w f g x : ℕ) → f ≡ g + 1 → (x ≡ 0 → ⊥) → (get_or label ((x - 1) % key_limit) 0 ≡ w → ⊥)
+    → found_from link label w f x ≡ found_from link label w g (get_or link ((x - 1) % key_limit) 0)
+found_miss link label w f g x h n e = let i : f - 1 ≡ g = omega arith in rw (ne_eqb _ _ e, i) at (found_step link label w f x (omega arith) n)
 
 pub unlink_step : (link : List ℕ) (k f at x : ℕ) → 0 < f → (x ≡ 0 → ⊥)
     → unlink link k f at x ≡ pick (eqb (x - 1) k) (set link at (get_or link k 0)) (unlink link k (f - 1) ((x - 1) % key_limit) (get_or link ((x - 1) % key_limit) 0))
@@ -67,9 +67,9 @@ unlink_out link k (suc f) at x e = absurd (omega arith)
 pub unlink_hit : (link : List ℕ) (k f at x : ℕ) → 0 < f → (x ≡ 0 → ⊥) → x - 1 ≡ k → unlink link k f at x ≡ set link at (get_or link k 0)
 unlink_hit link k f at x h n e = rw (eq-eqb _ _ e) at (unlink_step link k f at x h n)
 
-pub unlink_miss : (link : List ℕ) (k f at x : ℕ) → 0 < f → (x ≡ 0 → ⊥) → (x - 1 ≡ k → ⊥)
-    → unlink link k f at x ≡ unlink link k (f - 1) ((x - 1) % key_limit) (get_or link ((x - 1) % key_limit) 0)
-unlink_miss link k f at x h n e = rw (ne_eqb _ _ e) at (unlink_step link k f at x h n)
+pub unlink_miss : (link : List ℕ) (k f g at x : ℕ) → f ≡ g + 1 → (x ≡ 0 → ⊥) → (x - 1 ≡ k → ⊥)
+    → unlink link k f at x ≡ unlink link k g ((x - 1) % key_limit) (get_or link ((x - 1) % key_limit) 0)
+unlink_miss link k f g at x h n e = let i : f - 1 ≡ g = omega arith in rw (ne_eqb _ _ e, i) at (unlink_step link k f at x (omega arith) n)
 
 pub find_start : (link label : List ℕ) (w at x : ℕ) → at ≡ home w → x ≡ get_or link at 0 → find link label w ≡ found_from link label w key_limit x
 unfolding find
@@ -91,8 +91,8 @@ longer_none link zero x h e = absurd (omega arith)
 longer_none link (suc i) zero h e = refl
 longer_none link (suc i) (suc x) h e = absurd (omega arith)
 
-pub longer_step : (link : List ℕ) (i x : ℕ) → 0 < i → (x ≡ 0 → ⊥) → longer link i x ≡ longer link (i - 1) (get_or link ((x - 1) % key_limit) 0)
+pub longer_step : (link : List ℕ) (i j x : ℕ) → i ≡ j + 1 → (x ≡ 0 → ⊥) → longer link i x ≡ longer link j (get_or link ((x - 1) % key_limit) 0)
 unfolding longer
-longer_step link zero x h e = absurd (omega arith)
-longer_step link (suc i) zero h e = absurd (e refl)
-longer_step link (suc i) (suc x) h e = rw (sub-one, sub-one)
+longer_step link zero j x h e = absurd (omega arith)
+longer_step link (suc i) j zero h e = absurd (e refl)
+longer_step link (suc i) j (suc x) h e = let k : i ≡ j = omega arith in rw (k, sub-one)

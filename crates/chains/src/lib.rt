@@ -1,43 +1,42 @@
 // Keys by their labels: chains through a table of links.
 #![tactic(auto)]
 
-ghost use Rattle.std.specs.Prelude.{◌≡◌, ◌+◌, ◌-◌, ◌*◌, ◌%◌, ◌≤◌, ◌<◌, suc, length, get_or, set};
+ghost use Rattle.std.specs.Prelude.{◌≡◌, ◌+◌, ◌-◌, ◌*◌, ◌%◌, ◌≤◌, ◌<◌, suc, length, get_or, set, unwrap_or, IfSome};
 ghost use Rattle.chains.specs.Chains.{home as home_of, find as find_of, unlink as unlink_of};
 ghost use Rattle.chains.specs.Chains.{taken, pushed, relinked, longer};
-ghost use Rattle.chains.specs.FreeChain.{FreeChain, NoHeads, Freed};
+ghost use Rattle.chains.specs.FreeChain.{FreeChain, Freed};
 ghost use Rattle.laws.specs.Sizes.{free_head, key_limit, last_key, link_length};
 
-use laws::{CHAINS, FREE, KEYS, LAST_KEY, low16, wide16, wide32};
+use laws::{CHAINS, FREE, KEYS, LAST_KEY};
 
 fn home(w: u32) -> usize
     ensures { (result ≡ home_of w) × (key_limit ≤ result) × (result < link_length) }
 {
     if w == 0 {
-        return FREE;
+        FREE
+    } else {
+        KEYS + (w as usize - 1) % CHAINS
     }
-    KEYS + (wide32(w) - 1) % CHAINS
 }
 
-// The key with label `w`, or 4096.
-pub fn find(link: &[u16], label: &[u32], w: u32) -> usize
+// The key with label `w`.
+pub fn find(link: &[u16], label: &[u32], w: u32) -> Option<usize>
     requires { (link_length ≤ length link.now) × (key_limit ≤ length label.now) }
-    ensures { result ≡ find_of link.now label.now w }
+    ensures found { unwrap_or result key_limit ≡ find_of link.now label.now w }
+    ensures below { IfSome result (λ k. k < key_limit) }
 {
-    let at = home(w);
-    let mut k = wide16(link[at]);
-    let mut fuel: usize = KEYS;
-    while 0 < fuel {
+    let mut k = link[home(w)] as usize;
+    for _ in 0..KEYS {
         if k == 0 {
-            return KEYS;
+            return None;
         }
         let j = (k - 1) % KEYS;
         if label[j] == w {
-            return j;
+            return Some(j);
         }
-        k = wide16(link[j]);
-        fuel -= 1;
+        k = link[j] as usize;
     }
-    KEYS
+    None
 }
 
 // Takes the key `k` off the chain that goes on at `from`.
@@ -47,9 +46,8 @@ fn unlink(link: &mut [u16], k: usize, from: usize)
         ≡ unlink_of link.old k key_limit from (get_or link.old from 0) }
 {
     let mut at = from;
-    let mut fuel: usize = KEYS;
-    while 0 < fuel {
-        let x = wide16(link[at]);
+    for _ in 0..KEYS {
+        let x = link[at] as usize;
         if x == 0 {
             return;
         }
@@ -58,7 +56,6 @@ fn unlink(link: &mut [u16], k: usize, from: usize)
             return;
         }
         at = (x - 1) % KEYS;
-        fuel -= 1;
     }
 }
 
@@ -68,7 +65,7 @@ pub fn relabel(link: &mut [u16], label: &mut [u32], k: u16, w: u32)
     ensures { (link.new ≡ relinked link.old label.old k w)
         × (label.new ≡ set label.old k w) }
 {
-    let j = wide16(k);
+    let j = k as usize;
     let old = home(label[j]);
     unlink(link, j, old);
     let at = home(w);
@@ -82,15 +79,12 @@ pub fn roomy(link: &[u16], m: usize) -> bool
     requires { link_length ≤ length link.now }
     ensures { result ≡ longer link.now m (get_or link.now free_head 0) }
 {
-    let mut k = wide16(link[FREE]);
-    let mut i = m;
-    while 0 < i {
+    let mut k = link[FREE] as usize;
+    for _ in 0..m {
         if k == 0 {
             return false;
         }
-        let j = (k - 1) % KEYS;
-        k = wide16(link[j]);
-        i -= 1;
+        k = link[(k - 1) % KEYS] as usize;
     }
     true
 }
@@ -100,22 +94,8 @@ fn free_chain(link: &mut [u16])
     requires { link_length ≤ length link.old }
     ensures { FreeChain link.old link.new last_key }
 {
-    let mut i: usize = 0;
-    while i < LAST_KEY {
-        link[i] = low16(i + 2);
-        i += 1;
-    }
-}
-
-// No key on any chain of labels.
-fn clear_heads(link: &mut [u16])
-    requires { link_length ≤ length link.old }
-    ensures { NoHeads link.old link.new free_head }
-{
-    let mut i: usize = LAST_KEY;
-    while i < FREE {
-        link[i] = 0;
-        i += 1;
+    for i in 0..LAST_KEY {
+        link[i] = i as u16 + 2;
     }
 }
 
@@ -125,6 +105,6 @@ pub fn free_all(link: &mut [u16])
     ensures { Freed link.old link.new }
 {
     free_chain(link);
-    clear_heads(link);
+    link[LAST_KEY..FREE].fill(0);
     link[FREE] = 1;
 }

@@ -1,16 +1,19 @@
 -- What callers use of the layout.
 use Prim.Native.Nat.{ℕ, zero, suc, ◌+◌, ◌-◌, ◌*◌, ◌/◌, ◌%◌, ◌≤◌, ◌<◌, max}
-use mathlib.Core.Path.{◌≡◌, refl, ap, ◌∙◌}
-use mathlib.Core.List.{List, [], ◌∷◌}
+use mathlib.Core.Path.{◌≡◌, refl, ap, sym, ◌∙◌}
+use mathlib.Core.List.{List, [], ◌∷◌, ◌++◌}
 use mathlib.Core.Bool.{Bool, true, false}
-use native.Mathlib.Numerals.{add-one}
 use native.Mathlib.Omega.{arith}
 use borrow.Author.Tests.{ltb-true, ltb-false, leb-true, lt-ltb, le-ltb}
 use lib.Dec.{ltb, eqb}
-use lib.ListN.{length, get_or, set, take, drop, length-take, length-drop, length-set, length-append, length-replicate, drop_of_length-le}
-use lib.Seq.{drop-cons, sets, length-sets, take_all}
+use lib.ListN.{length, get_or, set, take, drop, length-take, length-drop, length-set, length-append, length-replicate, replicate}
+use lib.Seq.{sets, length-sets}
+use Rattle.std.specs.List.{fold}
 use Rattle.laws.specs.Choice.{pick}
-use Rattle.laws.proofs.Lists.{sets_turn}
+use borrow.Rule.Slice.PartMut.{put_mid}
+use Rattle.std.proofs.lemmas.List.{append_assoc, drop-drop, length-take-le}
+use Rattle.std.proofs.lemmas.List.Edits.{sets-eq}
+use Rattle.std.proofs.lemmas.Grind.{same_number_lists}
 use Rattle.terms.specs.Terms.{Signed}
 use Rattle.layout.specs.Layout.{sets_long, long_enough, Long, largest_of, arities, signature_of, term_of, used_of, is_used, blank, signed, with_term}
 use Rattle.slots.specs.Slots.{has, words8}
@@ -42,13 +45,14 @@ long b u l k s0 s1 s2 s3 h =
       l3 = leb-true _ _ w.1;
     }
 
-pub largest_step : (s : List ℕ) (i : ℕ) → i < length s → largest_of (drop i s) ≡ max (get_or s i 0) (largest_of (drop (i + 1) s))
+-- the largest, as a fold finds it
+largest_from : (a : ℕ) (s : List ℕ) → fold max a s ≡ max a (largest_of s)
 unfolding largest_of
-largest_step s i h = rw (add-one, drop-cons s i 0 h)
+largest_from a [] = omega arith
+largest_from a (x ∷ s) = omega (arith, largest_from (max a x) s)
 
-pub largest_end : (s : List ℕ) (i : ℕ) → length s ≤ i → largest_of (drop i s) ≡ 0
-unfolding largest_of
-largest_end s i h = rw drop_of_length-le
+pub largest_is : (s : List ℕ) (m : ℕ) → m ≡ fold max 0 s → m ≡ largest_of s
+largest_is s m e = omega (arith, e, largest_from 0 s)
 
 largest_le : (s : List ℕ) (x : ℕ) → get_or s x 0 ≤ largest_of s
 unfolding largest_of
@@ -105,16 +109,30 @@ module _ (b : List ℕ) (n : ℕ) (e : n ≡ get_or b 0 0 * 256 + get_or b 1 0) 
       let l : largest_of (arities b) ≤ 8 = rw (f, part) at g in
       rw (le-ltb 256 (get_or b 0 0 * 256 + get_or b 1 0) (rw e at h), le-ltb 8 (largest_of (arities b)) l) part
 
-pub term_part : (b : List ℕ) (s n : ℕ) → n ≡ get_or b (lengths_start + s) 0
-    → (take (terms_start + 64 * s + n % 65 - (terms_start + 64 * s)) (drop (terms_start + 64 * s) b) ≡ term_of b s) × (length (take (terms_start + 64 * s + n % 65 - (terms_start + 64 * s)) (drop (terms_start + 64 * s) b)) ≤ 64)
-unfolding term_of
-term_part b s n e =
-    let z : terms_start + 64 * s + n % 65 - (terms_start + 64 * s) ≡ n % 65 = omega arith in
-    (rw (z, e), rw z (simp length-take (omega arith)))
+pub ruleset signature_ways = (sig_none, sig_bad, sig_fine)
 
-pub signed_is : (b sig c : List ℕ) (h l : ℕ) → c ≡ blank bytes_length b → h ≡ length sig / 256 → l ≡ length sig % 256 → sets (set (set c 0 h) 1 l) 2 sig ≡ signed b sig
+pub term_part : (b : List ℕ) (s : ℕ) → let n = get_or b (lengths_start + s) 0 % 65 in let a = terms_start + 64 * s in
+    (take (a + n - a) (drop a b) ≡ term_of b s) × (length (take (a + n - a) (drop a b)) ≤ 64)
+unfolding term_of
+term_part b s =
+    let a = terms_start + 64 * s in let n = get_or b (lengths_start + s) 0 % 65 in
+    let z : a + n - a ≡ n = omega arith in
+    (rw z, rw z (simp length-take (omega arith)))
+
+pub signed_is : (b sig c : List ℕ) → c ≡ blank bytes_length b → sets (set (set c 0 (length sig / 256)) 1 (length sig % 256)) 2 sig ≡ signed b sig
 unfolding signed
-signed_is b sig c h l e f g = rw (e, f, g)
+signed_is b sig c e = rw e
+
+-- what `clear` of `filling` says of a table of numbers
+pub cleared : (n : ℕ) (old new : List ℕ) → (z : ℕ) × (z ≡ 0) × (new ≡ replicate n z ++ drop n old) → new ≡ blank n old
+unfolding blank
+cleared n old new (z, e, p) = p ∙ ap (λ x. replicate n x ++ drop n old) e
+
+-- a part that was copied over
+pub copied : (b v xs : List ℕ) (at k : ℕ) → k ≡ length v → at + length v ≤ length b → xs ≡ v → put_mid at k b xs ≡ sets b at v
+copied b v xs at k e h f =
+    let g : drop k (drop at b) ≡ drop (at + length v) b = rw e (drop-drop (length v) at b) in
+    rw (f, g) (sym (append_assoc (take at b) v _)) ∙ sym (sets-eq v b at h)
 
 pub in_use_small : (u : List ℕ) (s : ℕ) → is_used u s ≡ true → s < slot_count
 unfolding is_used
@@ -132,12 +150,9 @@ get_or_used : (ws : List ℕ) (i : ℕ) → i < 8 → get_or (used_of ws) i 0 �
 unfolding used_of
 get_or_used ws i h = get_or_words8 _ i h
 
--- a loop that writes the slots in use: a turn, and the end
-pub used_turn : (u₀ u ws : List ℕ) (i : ℕ) → i < 8 → u ≡ sets u₀ 0 (take i (used_of ws)) → set u i (get_or ws i 0) ≡ sets u₀ 0 (take (i + 1) (used_of ws))
-used_turn u₀ u ws i h e =
-    let z : 0 + i ≡ i = omega arith in
-    let t = rw (z, get_or_used ws i h) at (sets_turn u₀ 0 i (used_of ws) (omega (arith, used_8 ws))) in
-    rw e t
-
-pub used_end : (u₀ u ws : List ℕ) (i : ℕ) → 8 ≤ i → u ≡ sets u₀ 0 (take i (used_of ws)) → u ≡ sets u₀ 0 (used_of ws)
-used_end u₀ u ws i h e = e ∙ ap (sets u₀ 0) (take_all i (used_of ws) (omega (arith, used_8 ws)))
+-- the slots in use, copied over the front
+pub used_copied : (u ws xs : List ℕ) → 8 ≤ length u → length xs ≡ length (take 8 u) → xs ≡ ws → xs ++ drop 8 u ≡ sets u 0 (used_of ws)
+used_copied u ws xs h l e =
+    let n : length ws ≡ 8 = rw (← e) (l ∙ length-take-le 8 u h) in
+    let s : ws ≡ used_of ws = same_number_lists ws (used_of ws) (n ∙ sym (used_8 ws)) (λ i b. sym (get_or_used ws i (omega (arith, n, b)))) in
+    copied u (used_of ws) xs 0 8 (sym (used_8 ws)) (omega (arith, used_8 ws)) (e ∙ s)

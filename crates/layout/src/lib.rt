@@ -5,10 +5,12 @@ ghost use Rattle.std.specs.Prelude.{◌≡◌, ◌+◌, ◌-◌, ◌*◌, ◌%�
 ghost use Rattle.layout.specs.Layout.{sets_long, long_enough, largest_of, signature_of, term_of, used_of, is_used};
 ghost use Rattle.laws.specs.Sizes.{bytes_length, slot_count};
 
-use laws::{BYTES, LABEL, LENGTHS_START, LINK, SETS, SLOTS, TERMS_START, USED, number_at, wide};
+use laws::{BYTES, LABEL, LENGTHS_START, LINK, SETS, SLOTS, TERMS_START, USED, number_at};
 use slots::SlotSet;
+use std::array;
 
 // Are the tables as long as docs/TABLES.md says; refusal 1 otherwise.
+#[tactic(auto, unfolding(crate::specs::Layout::long_enough))]
 pub fn lengths_suffice(
     bytes: usize,
     used: usize,
@@ -21,37 +23,17 @@ pub fn lengths_suffice(
 ) -> bool
     ensures { result ≡ long_enough bytes used label link s0 s1 s2 s3 }
 {
-    if bytes < BYTES {
-        return false;
-    }
-    if used < USED {
-        return false;
-    }
-    if label < LABEL {
-        return false;
-    }
-    if link < LINK {
-        return false;
-    }
-    sets_suffice(s0, s1, s2, s3)
+    BYTES <= bytes && USED <= used && LABEL <= label && LINK <= link && sets_suffice(s0, s1, s2, s3)
 }
 
+#[tactic(auto, unfolding(crate::specs::Layout::sets_long))]
 fn sets_suffice(s0: usize, s1: usize, s2: usize, s3: usize) -> bool
     ensures { result ≡ sets_long s0 s1 s2 s3 }
 {
-    if s0 < SETS {
-        return false;
-    }
-    if s1 < SETS {
-        return false;
-    }
-    if s2 < SETS {
-        return false;
-    }
-    SETS <= s3
+    SETS <= s0 && SETS <= s1 && SETS <= s2 && SETS <= s3
 }
 
-// The same, of the tables themselves.
+// The same, of the tables themselves where they are shared; of those lent to change the lengths are taken before.
 pub fn long_enough(
     bytes: &[u8],
     used: &[u64],
@@ -79,37 +61,26 @@ pub fn long_enough(
     )
 }
 
-fn larger(a: u8, b: u8) -> u8
-    ensures { result ≡ max a b }
-{
-    if a < b { b } else { a }
-}
-
 // The largest of the bytes, or 0.
 fn largest(s: &[u8]) -> u8
     ensures { result ≡ largest_of s.now }
 {
-    let mut m: u8 = 0;
-    let mut i: usize = 0;
-    while i < s.len() {
-        m = larger(m, s[i]);
-        i += 1;
-    }
-    m
+    s.iter().fold(0, |largest, byte| largest.max(*byte))
 }
 
 // The signature; the empty part where the bytes hold none, as on memory that no opening made.
+#[tactic(auto, using(crate::proofs::LayoutLaws::signature_ways))]
 pub fn signature(bytes: &[u8]) -> &[u8]
     requires { bytes_length ≤ length bytes.now }
     ensures { result.now ≡ signature_of bytes.now }
 {
     let n = number_at(bytes, 0);
     if 256 < n {
-        return &bytes[0..0];
+        return &[];
     }
     let end = n + 2;
     if 8 < largest(&bytes[2..end]) {
-        return &bytes[0..0];
+        return &[];
     }
     &bytes[2..end]
 }
@@ -119,31 +90,28 @@ pub fn term(bytes: &[u8], slot: usize) -> &[u8]
     requires { (bytes_length ≤ length bytes.now) × (slot < slot_count) }
     ensures { (result.now ≡ term_of bytes.now slot) × (length result.now ≤ 64) }
 {
-    let n = wide(bytes[LENGTHS_START + slot]) % 65;
+    let n = bytes[LENGTHS_START + slot] as usize % 65;
     let from = TERMS_START + 64 * slot;
     let to = from + n;
     &bytes[from..to]
 }
 
 // The slots in use.
+#[tactic(auto, unfolding(crate::specs::Layout::used_of, slots::specs::Slots::words8))]
 pub fn slots_used(used: &[u64]) -> SlotSet
     requires { 8 ≤ length used.now }
     ensures { result.words ≡ used_of used.now }
 {
     SlotSet {
-        words: [
-            used[0], used[1], used[2], used[3], used[4], used[5], used[6], used[7],
-        ],
+        words: array::from_fn(|i| used[i]),
     }
 }
 
 // Is the slot one of those in use; refusal 4 otherwise.
+#[tactic(auto, unfolding(crate::specs::Layout::is_used))]
 pub fn in_use(used: &[u64], slot: usize) -> bool
     requires { 8 ≤ length used.now }
     ensures { result ≡ is_used used.now slot }
 {
-    if SLOTS <= slot {
-        return false;
-    }
-    slots_used(used).contains(slot)
+    slot < SLOTS && slots_used(used).contains(slot)
 }

@@ -10,7 +10,7 @@ ghost use Rattle.laws.specs.Sizes.{bytes_length, key_limit, link_length, slot_co
 use chains::roomy;
 
 // A term's items as its keys need them.
-#[derive(Clone, Copy)]
+#[derive(Debug, Clone, Copy, PartialEq, Eq)]
 pub struct Outline {
     pub items: usize,
     pub ups: [u8; 32],
@@ -22,17 +22,13 @@ pub fn outline_of(sig: &[u8], t: &[u8]) -> Outline
     requires { Signed sig.now × (length t.now ≤ 64) }
     ensures { Outlined sig.now t.now result.items result.ups result.ends }
 {
-    let mut items = [0u16; 32];
+    let mut numbers = [0u16; 32];
     let mut ups = [0u8; 32];
     let mut ends = [0u16; 32];
-    let n = outline::decode(t, &mut items);
-    outline::ends(&items[..n], &mut ends);
-    let m = outline::ups(sig, &items[..n], &mut ups);
-    Outline {
-        items: m,
-        ups: ups,
-        ends: ends,
-    }
+    let n = outline::decode(t, &mut numbers);
+    outline::ends(&numbers[..n], &mut ends);
+    let items = outline::ups(sig, &numbers[..n], &mut ups);
+    Outline { items, ups, ends }
 }
 
 // Writes the numbers of the keys of a term's items, 4096 for one that is missing.
@@ -42,11 +38,8 @@ pub fn numbers_of(link: &[u16], label: &[u32], o: Outline, keys: &mut [u16]) -> 
     ensures { (result ≡ o.items) × (keys.new ≡ located link.now label.now
         (take o.items o.ups) (take o.items o.ends)) }
 {
-    let n = o.items;
-    let ups = o.ups;
-    let ends = o.ends;
-    termkeys::locate(link, label, &ups[..n], &ends[..n], keys);
-    n
+    termkeys::locate(link, label, &o.ups[..o.items], &o.ends[..o.items], keys);
+    o.items
 }
 
 // Do the keys of a term fit; refusal 12 otherwise. Where a key is free for each item, none need be looked for.
@@ -56,13 +49,12 @@ pub fn fits(link: &[u16], label: &[u32], o: Outline) -> bool
     ensures { result ≡ room_for link.now label.now
         (take o.items o.ups) (take o.items o.ends) }
 {
-    let n = o.items;
-    if roomy(link, n) {
+    if roomy(link, o.items) {
         return true;
     }
     let mut keys = [0u16; 32];
     numbers_of(link, label, o, &mut keys);
-    roomy(link, termkeys::missing(&keys[..n]))
+    roomy(link, termkeys::missing(&keys[..o.items]))
 }
 
 // Writes the numbers of the keys of the term that stands in a slot. What no insert wrote has no keys.

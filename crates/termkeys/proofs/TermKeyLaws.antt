@@ -3,11 +3,15 @@ use mathlib.Core.Path.{◌≡◌, refl, sym, ap, ◌∙◌}
 use mathlib.Core.List.{List}
 use lib.ListN.{length, get_or, set, drop, drop_of_length-le}
 use lib.Seq.{drop-cons}
-use mathlib.Core.Bool.{Bool, true, false}
-use lib.Dec.{ltb}
-use native.Mathlib.Numerals.{add-one}
+use mathlib.Core.Bool.{true, false, cond}
+use lib.Dec.{leb, ltb}
+use Rattle.std.proofs.Common.{count_by, mod-eq_of_lt, Option, Some, None}
+use Rattle.std.specs.Option.{unwrap_or, IfSome}
+use Rattle.std.proofs.lemmas.Bool.Decides.{nat_tests}
+use Rattle.std.proofs.lemmas.List.Recursion.{is_count_by}
+use native.Mathlib.Numerals.{add-one, sub-one}
 use native.Mathlib.Omega.{arith}
-use borrow.Author.Tests.{lt-ltb, le-ltb}
+use borrow.Author.Tests.{lt-ltb}
 use Rattle.laws.specs.Choice.{pick}
 use Rattle.chains.specs.Chains.{find, relinked}
 use Rattle.keysets.specs.KeySets.{Sets, four, mark, unmark, emptyb}
@@ -24,10 +28,10 @@ unfolding up_num
 up_root ks zero h = refl
 up_root ks (suc v) h = absurd (omega arith)
 
-pub up_key : (ks : List ℕ) (u v a b : ℕ) → (u ≡ 0 → ⊥) → v ≡ u → a ≡ get_or ks ((v - 1) / 8) 0 → b ≡ (v - 1) % 8 → a * 8 + b ≡ up_num ks u
+pub up_key : (ks : List ℕ) (u : ℕ) → (u ≡ 0 → ⊥) → get_or ks ((u - 1) / 8) 0 * 8 + (u - 1) % 8 ≡ up_num ks u
 unfolding up_num
-up_key ks zero v a b h e p q = absurd (h refl)
-up_key ks (suc u) v a b h e p q = let z : v - 1 ≡ u = omega arith in rw (p, q, z)
+up_key ks zero h = absurd (h refl)
+up_key ks (suc u) h = rw sub-one
 
 pub fill_turn : (link label ks us es : List ℕ) (i n w k : ℕ) → i < length us → length us ≡ length es → n ≡ up_num ks (get_or us i 0) → w ≡ lab n (get_or es i 0) → k ≡ find link label w
     → fill link label ks i (drop i us) (drop i es) ≡ fill link label (set ks i k) (i + 1) (drop (i + 1) us) (drop (i + 1) es)
@@ -42,19 +46,24 @@ pub key_found : (σ : St Sets) (f w : ℕ) → f ≡ find σ.link σ.label w →
 unfolding key_for
 key_found σ f w e h = let z : ltb (find σ.link σ.label w) key_limit ≡ true = rw (← e) (lt-ltb f key_limit h) in rw z e
 
-pub key_added : (σ : St Sets) (f w k : ℕ) → f ≡ find σ.link σ.label w → key_limit ≤ f → k ≡ find σ.link σ.label 0 % key_limit → k ≡ key_for Sets mark σ w
+pub key_added : (σ : St Sets) (w k : ℕ) → key_limit ≡ find σ.link σ.label w → k ≡ find σ.link σ.label 0 % key_limit → k ≡ key_for Sets mark σ w
 unfolding key_for
-key_added σ f w k e h g = let z : ltb (find σ.link σ.label w) key_limit ≡ false = rw (← e) (le-ltb f key_limit h) in rw z g
+key_added σ w k e g = let z : ltb (find σ.link σ.label w) key_limit ≡ false = rw (← e) in rw z g
+
+-- the free key that was found is its number; where none is free, key 0 stands for 4096
+pub free_number : (r : Option ℕ) (n : ℕ) → unwrap_or r key_limit ≡ n → IfSome r (λ k. k < key_limit) → unwrap_or r 0 ≡ n % key_limit
+free_number None n e h = rw (← e) refl
+free_number (Some k) n e h = rw (← e) (sym (mod-eq_of_lt h))
 
 module _ (a b c d e f c' d' e' f' : List ℕ) (s w x k : ℕ) where
   pub entered_found : x ≡ find a b w → x < key_limit → four c' d' e' f' ≡ mark (four c d e f) x s → tables a b c' d' e' f' ≡ entered Sets mark (tables a b c d e f) s w
   unfolding entered marked ensured key_for
   entered_found h l m = let z : ltb (find a b w) key_limit ≡ true = rw (← h) (lt-ltb x key_limit l) in rw (z, ← h, ← m)
 
-  pub entered_added : (a' b' : List ℕ) → x ≡ find a b w → key_limit ≤ x → k ≡ find a b 0 % key_limit → a' ≡ relinked a b k w → b' ≡ set b k w → four c' d' e' f' ≡ mark (four c d e f) k s
+  pub entered_added : (a' b' : List ℕ) → key_limit ≡ find a b w → k ≡ find a b 0 % key_limit → a' ≡ relinked a b k w → b' ≡ set b k w → four c' d' e' f' ≡ mark (four c d e f) k s
       → tables a' b' c' d' e' f' ≡ entered Sets mark (tables a b c d e f) s w
   unfolding entered marked ensured key_for
-  entered_added a' b' h l g p q m = let z : ltb (find a b w) key_limit ≡ false = rw (← h) (le-ltb x key_limit l) in rw (z, ← g, ← p, ← q, ← m)
+  entered_added a' b' h g p q m = let z : ltb (find a b w) key_limit ≡ false = rw (← h) in rw (z, ← g, ← p, ← q, ← m)
 
 pub ins_turn : (σ τ : St Sets) (ks us es : List ℕ) (s i n w k : ℕ) → i < length us → length us ≡ length es → n ≡ up_num ks (get_or us i 0) → w ≡ lab n (get_or es i 0) → k ≡ key_for Sets mark σ w → τ ≡ entered Sets mark σ s w
     → ins_fill σ ks s i (drop i us) (drop i es) ≡ ins_fill τ (set ks i k) s (i + 1) (drop (i + 1) us) (drop (i + 1) es)
@@ -85,14 +94,10 @@ module _ (a b c d e f c' d' e' f' : List ℕ) (k s : ℕ) where
   unfolding left cleared freed
   left_freed a' b' m z p q = let y : emptyb (unmark (four c d e f) k s) k ≡ true = sym (z ∙ ap (λ (σ : Sets). emptyb σ k) m) in rw (y, ← m, p, q)
 
-pub missing_step : (ks : List ℕ) (i : ℕ) → i < length ks → missing (drop i ks) ≡ pick (ltb (get_or ks i 0) key_limit) 0 1 + missing (drop (i + 1) ks)
+-- a key is missing where its number is no key's
+pub missing_counted : (ks : List ℕ) → missing ks ≡ count_by (leb key_limit) ks
 unfolding missing
-missing_step ks i h = rw (add-one, drop-cons ks i 0 h) (go (ltb (get_or ks i 0) key_limit) (missing (drop (suc i) ks)))
+missing_counted = is_count_by missing (leb key_limit) refl (λ k ks. turn k (missing ks))
   where
-    go : (b : Bool) (m : ℕ) → pick b m (suc m) ≡ pick b 0 1 + m
-    go true m = omega arith
-    go false m = omega arith
-
-pub missing_end : (ks : List ℕ) (i : ℕ) → length ks ≤ i → missing (drop i ks) ≡ 0
-unfolding missing
-missing_end ks i h = rw (drop_of_length-le ks h)
+    turn : (k m : ℕ) → pick (ltb k key_limit) m (suc m) ≡ cond (leb key_limit k) (1 + m) m
+    turn k m = grind (arith, nat_tests)

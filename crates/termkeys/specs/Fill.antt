@@ -1,5 +1,5 @@
 -- Serves SCOPE.md, 'Store': what the loops over a term's items do to the tables.
-use Rattle.std.specs.Prelude.{ℕ, zero, suc, ◌%◌, ◌≤◌, ◌≡◌, List, [], ◌∷◌, length, get_or, set}
+use Rattle.std.specs.Prelude.{ℕ, zero, suc, ◌%◌, ◌≤◌, List, [], ◌∷◌, length, get_or, set}
 use Rattle.chains.specs.Chains.{find}
 use Rattle.keysets.specs.KeySets.{Sets, four, mark, unmark, emptyb}
 use Rattle.paths.specs.Rep.{lab}
@@ -43,12 +43,3 @@ ins_fill σ ks s i (u ∷ us) (e ∷ es) = ins_fill (entered Sets mark σ s (lab
 unfoldable pub del_fill : St Sets → List ℕ → ℕ → ℕ → St Sets
 del_fill σ ks s zero = σ
 del_fill σ ks s (suc n) = del_fill (left Sets unmark emptyb σ (get_or ks n 0 % key_limit) s) ks s n
-
--- the six tables are as long as they were
-pub record SameLengths (a b c d e f a' b' c' d' e' f' : List ℕ) : Type 0 where
-  pub e0 : length a ≡ length a'
-  pub e1 : length b ≡ length b'
-  pub e2 : length c ≡ length c'
-  pub e3 : length d ≡ length d'
-  pub e4 : length e ≡ length e'
-  pub e5 : length f ≡ length f'

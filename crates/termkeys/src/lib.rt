@@ -1,9 +1,8 @@
 // A term's keys in the tables: found, added with a slot, and cleared of it, one item after another.
 #![tactic(auto)]
 
-ghost use Rattle.std.specs.Prelude.{◌≡◌, ◌+◌, ◌-◌, ◌*◌, ◌/◌, ◌%◌, ◌≤◌, ◌<◌, length, get_or, set, ltb};
-ghost use Rattle.keysets.specs.KeySets.{Sets, mark as mark_of, unmark as unmark_of, emptyb, SetTablesLong};
-ghost use Rattle.laws.specs.Choice.{pick};
+ghost use Rattle.std.specs.Prelude.{◌≡◌, ◌+◌, ◌-◌, ◌*◌, ◌/◌, ◌%◌, ◌≤◌, ◌<◌, length, set};
+ghost use Rattle.keysets.specs.KeySets.{Sets, mark as mark_of, unmark as unmark_of, emptyb};
 ghost use Rattle.paths.specs.Locate.{missing as missing_of};
 ghost use Rattle.paths.specs.Rep.{lab};
 ghost use Rattle.paths.specs.TreeWalk.{up_num};
@@ -13,23 +12,9 @@ ghost use Rattle.termkeys.specs.Fill.{tables, Sized, fill, tables_and, ins_fill,
 ghost use Rattle.laws.specs.Sizes.{key_limit, link_length, place_end, slot_count};
 
 use chains::{find, relabel};
-use keysets::is_empty;
-use laws::{KEYS, KEYS16, ROOT, low16, wide, wide16};
+use keysets::KeySets;
+use laws::{KEYS, KEYS16, ROOT};
 use marking::{mark, unmark};
-
-// A number of two bytes as part of a label.
-fn long16(x: u16) -> u32
-    ensures { (result ≡ x) × (result < 65536) }
-{
-    x as u32
-}
-
-fn narrow(x: usize) -> u32
-    requires { x < 8 }
-    ensures { result ≡ x }
-{
-    x as u32
-}
 
 // The number of an item's place.
 fn place(ks: &[u16], u: u8) -> u32
@@ -39,9 +24,8 @@ fn place(ks: &[u16], u: u8) -> u32
     if u == 0 {
         return ROOT;
     }
-    let v = wide(u) - 1;
-    let at = v / 8;
-    long16(ks[at]) * 8 + narrow(v % 8)
+    let v = u - 1;
+    ks[v as usize / 8] as u32 * 8 + (v % 8) as u32
 }
 
 // The label of the key with end e at the place n.
@@ -49,22 +33,19 @@ pub fn label_of(n: u32, e: u16) -> u32
     requires { n < 524296 }
     ensures { result ≡ lab n e }
 {
-    n * 257 + long16(e) + 1
+    n * 257 + e as u32 + 1
 }
 
-// The keys of a term's items, found: 4096 for one that is missing.
+// The keys of a term's items, found: 4096 for one that is missing, no Option: the lent buffer has two bytes a key.
 pub fn locate(link: &[u16], label: &[u32], ups: &[u8], ends: &[u16], ks: &mut [u16])
     requires { (link_length ≤ length link.now) × (key_limit ≤ length label.now)
         × (length ups.now ≡ length ends.now) × (length ups.now ≤ length ks.old) × (32 ≤ length ks.old) }
     ensures { ks.new
         ≡ fill link.now label.now ks.old 0 ups.now ends.now }
 {
-    let mut i: usize = 0;
-    while i < ups.len() {
-        let n = place(ks, ups[i]);
-        let w = label_of(n, ends[i]);
-        ks[i] = low16(find(link, label, w));
-        i += 1;
+    for (i, up) in ups.iter().enumerate() {
+        let w = label_of(place(ks, *up), ends[i]);
+        ks[i] = find(link, label, w).unwrap_or(KEYS) as u16;
     }
 }
 
@@ -72,19 +53,7 @@ pub fn locate(link: &[u16], label: &[u32], ups: &[u8], ends: &[u16], ks: &mut [u
 pub fn missing(ks: &[u16]) -> usize
     ensures { (result ≡ missing_of ks.now) × (result ≤ length ks.now) }
 {
-    let mut n: usize = 0;
-    let mut i: usize = 0;
-    while i < ks.len() {
-        n += one_if_missing(ks[i]);
-        i += 1;
-    }
-    n
-}
-
-fn one_if_missing(k: u16) -> usize
-    ensures { (result ≡ pick (ltb k key_limit) 0 1) × (result ≤ 1) }
-{
-    if k < KEYS16 { 0 } else { 1 }
+    ks.iter().filter(|k| KEYS16 <= **k).count()
 }
 
 // The key with label `w`, found or added, gets the slot.
@@ -108,13 +77,13 @@ fn enter(
         (tables link.old label.old s0.old s1.old s2.old
         s3.old) s w }
 {
-    let f = find(link, label, w);
-    if f < KEYS {
+    if let Some(f) = find(link, label, w) {
         mark(s0, s1, s2, s3, f, s);
         return f;
     }
-    let k = find(link, label, 0) % KEYS;
-    relabel(link, label, low16(k), w);
+    // A key is free: callers have asked for room.
+    let k = find(link, label, 0).unwrap_or(0);
+    relabel(link, label, k as u16, w);
     mark(s0, s1, s2, s3, k, s);
     k
 }
@@ -141,17 +110,14 @@ pub fn insert_all(
         (tables link.old label.old s0.old s1.old s2.old
         s3.old) ks.old s 0 ups.now ends.now }
 {
-    let mut i: usize = 0;
-    while i < ups.len() {
-        let n = place(ks, ups[i]);
-        let w = label_of(n, ends[i]);
-        let k = enter(link, label, s0, s1, s2, s3, s, w);
-        ks[i] = low16(k);
-        i += 1;
+    for (i, up) in ups.iter().enumerate() {
+        let w = label_of(place(ks, *up), ends[i]);
+        ks[i] = enter(link, label, s0, s1, s2, s3, s, w) as u16;
     }
 }
 
 // The key `k` loses the slot, and is freed where it has none left.
+#[tactic(auto, using(crate::proofs::TermKeyLaws::left_kept, crate::proofs::TermKeyLaws::left_freed))]
 fn leave(
     link: &mut [u16],
     label: &mut [u32],
@@ -170,8 +136,9 @@ fn leave(
         s3.old) k s }
 {
     unmark(s0, s1, s2, s3, k, s);
-    if is_empty(s0, s1, s2, s3, k) {
-        relabel(link, label, low16(k), 0);
+    let sets = KeySets { s0, s1, s2, s3 };
+    if sets.is_empty(k) {
+        relabel(link, label, k as u16, 0);
     }
 }
 
@@ -195,10 +162,8 @@ pub fn delete_all(
         (tables link.old label.old s0.old s1.old s2.old
         s3.old) ks.now s n }
 {
-    let mut i = n;
-    while 0 < i {
-        i -= 1;
-        let k = wide16(ks[i]) % KEYS;
+    for i in (0..n).rev() {
+        let k = ks[i] as usize % KEYS;
         leave(link, label, s0, s1, s2, s3, k, s);
     }
 }
@@ -216,14 +181,5 @@ pub fn place_of(k: usize, i: u8) -> u32
     requires { k ≤ key_limit }
     ensures { (result ≡ k * 8 + (i - 1)) × (result < place_end) }
 {
-    if i == 0 {
-        return place_below(k);
-    }
-    place_below(k) + narrow8(i) - 1
-}
-
-fn narrow8(x: u8) -> u32
-    ensures { (result ≡ x) × (result < 256) }
-{
-    x as u32
+    place_below(k) + i.saturating_sub(1) as u32
 }

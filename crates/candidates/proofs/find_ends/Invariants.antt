@@ -1,11 +1,6 @@
-use Prim.Native.Nat.{◌≤◌}
-use mathlib.Core.Path.{◌≡◌}
 use lib.ListN.{length}
 use Rattle.candidates.specs.Ends.{EndsFrom, Ended}
 use Rattle.candidates.proofs.find_ends.Given as goal
 
 abbrev pub invariant-loop-i : goal.invariant-loop-i
-invariant-loop-i l = (l.i ≤ length l.items) × (length l.ends ≡ 32) × EndsFrom l.i (length l.items) l.ends × Ended l.i l.sig l.items l.ends
-
-abbrev pub decreases-loop-i : goal.decreases-loop-i
-decreases-loop-i l = l.i
+invariant-loop-i l = EndsFrom l.i (length l.items) l.ends × Ended l.i l.sig l.items l.ends

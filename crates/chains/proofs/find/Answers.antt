@@ -1,23 +1,23 @@
-use mathlib.Core.Path.{sym, ◌∙◌}
+use Prim.Native.Nat.{◌+◌, ◌-◌}
+use mathlib.Core.Path.{refl, sym, ◌∙◌}
 use native.Mathlib.Omega.{arith}
 use Rattle.chains.proofs.ChainLaws.{found_hit, found_miss, found_none, found_out, find_start}
+use Rattle.laws.specs.Sizes.{key_limit}
 use Rattle.chains.proofs.find.Goals as goal
 
-pub loop-fuel-init : goal.loop-fuel-init
-loop-fuel-init c = (omega arith, find_start _ _ _ _ _ c.home-at.ensures.0 c.wide16-k.ensures.0)
+pub loop-init : goal.loop-init
+loop-init c = find_start _ _ _ _ _ c.home.ensures.0 refl
 
-pub returns-then-k-eq0 : goal.returns-then-k-eq0
-returns-then-k-eq0 c = let l = c.loop-fuel in
-    sym (l.invariant.1 ∙ found_none _ _ _ _ _ c.if-k-eq0.true)
+pub returns-then-k-eq0-clause-found : goal.returns-then-k-eq0-clause-found
+returns-then-k-eq0-clause-found c = sym (c.loop.invariant ∙ found_none _ _ _ _ _ c.if-k-eq0.true)
 
-pub returns-then-label-j : goal.returns-then-label-j
-returns-then-label-j c = let l = c.loop-fuel in
-    sym (l.invariant.1 ∙ found_hit _ _ _ _ _ c.loop-fuel-test.true c.if-k-eq0.false c.if-label-j.true)
+pub returns-then-label-j-clause-found : goal.returns-then-label-j-clause-found
+returns-then-label-j-clause-found c =
+    sym (c.loop.invariant ∙ found_hit _ _ _ _ _ (omega arith) c.if-k-eq0.false c.if-label-j.true)
 
-pub loop-fuel-preserved : goal.loop-fuel-preserved
-loop-fuel-preserved c = let l = c.loop-fuel in
-    (omega arith, rw c.wide16-k-in-loop-fuel.ensures.0 (l.invariant.1 ∙ found_miss _ _ _ _ _ c.loop-fuel-test.true c.if-k-eq0.false c.if-label-j.false))
+pub loop-preserved : goal.loop-preserved
+loop-preserved c =
+    c.loop.invariant ∙ found_miss _ _ _ _ (key_limit - (c.loop.counter + 1)) _ (omega arith) c.if-k-eq0.false c.if-label-j.false
 
-pub returns : goal.returns
-returns c = let l = c.loop-fuel in
-    sym (l.invariant.1 ∙ found_out _ _ _ _ _ (omega arith))
+pub returns-clause-found : goal.returns-clause-found
+returns-clause-found c = sym (c.loop.invariant ∙ found_out _ _ _ _ _ (omega arith))

@@ -1,8 +1,7 @@
-use Rattle.chains.proofs.FreeChainLaws.{freed}
+use native.Mathlib.Omega.{arith}
+use Rattle.chains.proofs.FreeChainLaws.{freed, heads_filled}
 use Rattle.chains.proofs.free_all.Goals as goal
 
-pub shape_of-link : goal.shape_of-link
-shape_of-link c = (freed _ _ _ c.requires c.free_chain.ensures c.clear_heads.ensures).same
-
 pub returns : goal.returns
-returns c = freed _ _ _ c.requires c.free_chain.ensures c.clear_heads.ensures
+returns c = freed _ _ _ c.requires c.free_chain.ensures
+    (heads_filled _ _ (omega (arith, c.free_chain.ensures.same, c.requires)) (c.fill.ensures.after (λ y e. e)))

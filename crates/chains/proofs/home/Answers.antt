@@ -5,5 +5,5 @@ use Rattle.chains.proofs.home.Goals as goal
 pub returns-then-w-eq0 : goal.returns-then-w-eq0
 returns-then-w-eq0 c = (home_free _ c.if-w-eq0.true, omega arith, omega arith)
 
-pub returns : goal.returns
-returns c = (rw c.wide32.ensures.0 (home_label _ c.if-w-eq0.false), omega arith, omega arith)
+pub returns-else-w-eq0 : goal.returns-else-w-eq0
+returns-else-w-eq0 c = (home_label _ c.if-w-eq0.false, omega arith, omega arith)

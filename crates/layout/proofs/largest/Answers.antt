@@ -1,11 +1,10 @@
-use native.Mathlib.Omega.{arith}
-use Rattle.layout.proofs.LayoutLaws.{largest_step, largest_end}
+use Rattle.std.proofs.Common.{rules, max}
+use Rattle.std.proofs.lemmas.Iterator.{YieldsList-from_slice}
+use Rattle.std.proofs.lemmas.Iterator.Consumers.{fold_from_yields_List}
+use Rattle.layout.proofs.LayoutLaws.{largest_is}
 use Rattle.layout.proofs.largest.Goals as goal
 
-pub loop-i-preserved : goal.loop-i-preserved
-loop-i-preserved c = let l = c.loop-i in
-    let e = largest_step c.args.s.now l.i c.loop-i-test.true in
-    (omega arith, omega (arith, e, l.invariant.1, c.larger-m.ensures))
-
 pub returns : goal.returns
-returns c = let l = c.loop-i in omega (arith, largest_end c.args.s.now l.i (omega arith), l.invariant.1)
+returns c =
+    largest_is c.args.s.now c.fold.result
+    (fold_from_yields_List _ max 0 c.fold.result c.fold.ensures.ran (YieldsList-from_slice c.args.s.now cc) (λ a x b q k. search rules))

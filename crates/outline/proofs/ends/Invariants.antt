@@ -1,13 +1,9 @@
-use Prim.Native.Nat.{◌≤◌, ◌-◌}
 use mathlib.Core.Path.{◌≡◌}
 use mathlib.Core.List.{map}
-use lib.ListN.{length, take}
+use lib.ListN.{take}
 use lib.Seq.{sets}
 use Rattle.keys.specs.Keys.{end_of}
 use Rattle.outline.proofs.ends.Given as goal
 
 abbrev pub invariant-loop-i : goal.invariant-loop-i
-invariant-loop-i l = (l.i ≤ length l.items) × (length l.out ≡ length l.initial.out) × (l.out ≡ sets l.initial.out 0 (take l.i (map end_of l.items)))
-
-abbrev pub decreases-loop-i : goal.decreases-loop-i
-decreases-loop-i l = length l.items - l.i
+invariant-loop-i l = l.out ≡ sets l.initial.out 0 (take l.i (map end_of l.items))

@@ -1,16 +1,14 @@
 use mathlib.Core.Path.{refl}
 use native.Mathlib.Omega.{arith}
-use lib.ListN.{length-set}
-use Rattle.outline.proofs.OutlineLaws.{push_turn, kids_none, push_end}
+use Rattle.outline.proofs.OutlineLaws.{pushed_part, pushed_turn, pushed_end}
 use Rattle.outline.proofs.push.Goals as goal
-
-pub loop-j-init : goal.loop-j-init
-loop-j-init c = (omega arith, omega arith, refl, kids_none _ _ _ _ refl)
 
 pub loop-j-preserved : goal.loop-j-preserved
 loop-j-preserved c = let l = c.loop-j in
-    (omega arith, omega arith, simp length-set l.invariant.2, push_turn l.stack _ l.sp _ l.j _ _ (omega arith) (omega arith) (omega arith) (omega arith) l.invariant.3 c.low16.ensures)
+    let p = pushed_part c.args.stack.now c.args.top c.args.a c.requires.0 c.requires.1 in
+    pushed_turn l.up-items _ l.j _ _ (omega arith) (omega arith) (omega arith) l.invariant
 
 pub returns : goal.returns
 returns c = let l = c.loop-j in
-    (omega arith, push_end _ l.j _ _ _ (omega arith) l.invariant.3)
+    let p = pushed_part c.args.stack.now c.args.top c.args.a c.requires.0 c.requires.1 in
+    (refl, pushed_end c.args.stack.now l.up-items c.args.n c.args.top c.args.a l.j c.requires.0 c.requires.1 (omega arith) (omega arith) l.invariant)

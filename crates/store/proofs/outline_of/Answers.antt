@@ -15,10 +15,10 @@ ends-requires c = let d = c.decode-n in
 pub slice_bounds-ups-end : goal.slice_bounds-ups-end
 slice_bounds-ups-end c = let d = c.decode-n in sym (length-take-le d.result d.new.out (omega (arith, d.ensures.0, d.auto.out, c.requires.1)))
 
-pub ups-m-requires : goal.ups-m-requires
-ups-m-requires c = let d = c.decode-n in
+pub ups-items-requires : goal.ups-items-requires
+ups-items-requires c = let d = c.decode-n in
     let e = length-take-le d.result d.new.out (omega (arith, d.ensures.0, d.auto.out, c.requires.1)) in
     (omega (arith, e, d.ensures.0, c.requires.1), omega (arith, e, d.ensures.0, c.requires.1), c.requires.0.eight)
 
 pub returns : goal.returns
-returns c = outlined _ _ _ _ _ _ _ _ _ c.requires.1 refl refl c.ups-m.auto.out c.decode-n.ensures.0 c.decode-n.ensures.1 c.ends.ensures c.ups-m.ensures.0 c.ups-m.ensures.1
+returns c = outlined _ _ _ _ _ _ _ _ _ c.requires.1 refl refl c.ups-items.auto.out c.decode-n.ensures.0 c.decode-n.ensures.1 c.ends.ensures c.ups-items.ensures.0 c.ups-items.ensures.1

@@ -6,4 +6,4 @@ pub returns-then-u-eq0 : goal.returns-then-u-eq0
 returns-then-u-eq0 c = (up_root _ _ c.if-u-eq0.true, omega arith)
 
 pub returns : goal.returns
-returns c = (up_key _ _ _ _ _ c.if-u-eq0.false c.wide-v.ensures.0 c.long16.ensures.0 c.narrow.ensures, omega arith)
+returns c = (up_key _ _ c.if-u-eq0.false, omega arith)
