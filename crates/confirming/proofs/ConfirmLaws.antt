@@ -1,16 +1,19 @@
 -- The decision of one candidate, and the loop over the candidates.
-use Prim.Native.Nat.{ℕ, zero, suc, ◌+◌, ◌*◌, ◌/◌, ◌≤◌, ◌<◌}
-use mathlib.Core.Path.{◌≡◌, refl, sym, ◌∙◌}
-use mathlib.Core.Logic.{◌↔◌}
-use mathlib.Core.List.{List}
+use Prim.Native.Nat.{ℕ, zero, suc, ◌*◌, ◌/◌, ◌<◌}
+use mathlib.Core.Path.{◌≡◌, refl, sym, ap, ◌∙◌}
+use mathlib.Core.List.{List, [], ◌∷◌}
 use mathlib.Core.Bool.{Bool, true, false}
-use native.Mathlib.Decide.{ℕ_discrete, dec_lt}
+use native.Mathlib.Decide.{ℕ_discrete}
+use Rattle.std.specs.Prelude.{◌⊎◌}
+use Rattle.std.proofs.Common.{inl, inr, ⊎_elim}
+use Rattle.laws.specs.Members.{In}
 use native.Mathlib.Omega.{arith}
 use borrow.Author.Tests.{eq-eqb, eqb-true, eqb-false}
 use lib.Dec.{eqb}
 use lib.ListN.{length, replicate, length-set}
 use Rattle.laws.specs.Choice.{pick}
-use Rattle.slots.specs.Slots.{has, inserted, members, Next, next_above}
+use Rattle.slots.specs.Slots.{has, inserted, members}
+use Rattle.slots.specs.Sets.{members_has, has_members}
 use Rattle.slots.proofs.SlotLaws.{has_insert_same, has_insert_other}
 use Rattle.terms.specs.Terms.{Signed, refusal}
 use Rattle.terms.proofs.TermLaws.{good}
@@ -76,64 +79,67 @@ module _ (r : ℕ) (sig t q : List ℕ) (b : Bool) (g : Signed sig) (h : refusal
         go (suc (suc (suc zero))) n m o p = absurd (p refl)
         go (suc (suc (suc (suc k)))) n m o p = d
 
--- where the loop over the candidates stands: those before `slot` are decided by the test, none is in from `slot` on
-pub record Confirming (test : ℕ → Bool) (cs ws : List ℕ) (slot : ℕ) : Type 0 where
-  pub most : slot ≤ slot_count
-  pub here : slot < slot_count → has cs slot ≡ 1
+-- where the loop over the candidates stands, with the slots `now` to come: each answer is a candidate that passes, and
+-- each candidate that passes is an answer or is to come
+pub record Confirming (test : ℕ → Bool) (cs ws now : List ℕ) : Type 0 where
   pub eight : length ws ≡ 8
-  pub done : (s : ℕ) → s < slot → (has ws s ≡ 1) ↔ ((has cs s ≡ 1) × (test s ≡ true))
-  pub ahead : (s : ℕ) → slot ≤ s → has ws s ≡ 0
+  pub ahead : (s : ℕ) → In s now → (s < slot_count) × (has cs s ≡ 1)
+  pub sound : (s : ℕ) → has ws s ≡ 1 → (has cs s ≡ 1) × (test s ≡ true)
+  pub full : (s : ℕ) → s < slot_count → has cs s ≡ 1 → test s ≡ true → (has ws s ≡ 1) ⊎ In s now
 
--- a slot that is no candidate is no answer
-neither : (x y : ℕ) (P : Type 0) → x ≡ 0 → y ≡ 0 → (x ≡ 1) ↔ ((y ≡ 1) × P)
-neither x y P a b = ((λ z. absurd (omega (arith, a, z))), (λ z. absurd (omega (arith, b, z.0))))
-
-pub confirming_start : (test : ℕ → Bool) (cs ws : List ℕ) (slot : ℕ) → ws ≡ replicate 8 0 → Next cs 0 slot → Confirming test cs ws slot
-confirming_start test cs ws slot e n = record {
-  most = n.most;
-  here = n.member;
+pub confirming_start : (test : ℕ → Bool) (cs ws now : List ℕ) → ws ≡ replicate 8 0 → now ≡ members cs → Confirming test cs ws now
+confirming_start test cs ws now e f = record {
   eight = rw e refl;
-  done = λ s l. neither (has ws s) (has cs s) _ (rw e (none_has s)) (n.passed s (omega arith) l);
-  ahead = λ s l. rw e (none_has s);
+  ahead = λ s i. members_has cs s (rw f at i);
+  sound = λ s h. absurd (let z : has ws s ≡ 0 = rw e (none_has s) in omega (arith, h, z));
+  full = λ s l h t. inr (rw f (has_members cs s l h));
 }
 
-module _ (test : ℕ → Bool) (cs ws : List ℕ) (slot : ℕ) (c : Confirming test cs ws slot) (h : slot < slot_count) where
-  long : slot < 64 * length ws
-  long = omega (arith, c.eight, h)
+module _ (test : ℕ → Bool) (cs ws now : List ℕ) (c : Confirming test cs ws now) (slot : ℕ) (later : List ℕ) (head : now ≡ slot ∷ later) where
+  here : (slot < slot_count) × (has cs slot ≡ 1)
+  here = c.ahead slot (rw head (inl refl))
 
-  -- one candidate more, from slot to the next
-  pub confirming_turn : (b : Bool) (ws' : List ℕ) (slot' : ℕ) → b ≡ test slot → ws' ≡ pick b (inserted ws slot) ws → Next cs (slot + 1) slot' → Confirming test cs ws' slot'
-  confirming_turn b ws' slot' d e n = record {
-    most = n.most;
-    here = n.member;
-    eight = rw e (size b);
-    done = λ s l. done s l (dec_lt s slot) (ℕ_discrete s slot);
-    ahead = λ s l. rw e (later b s (omega (arith, l, next_above cs (slot + 1) slot' n (omega arith))));
+  pub confirming_slot : slot < slot_count
+  confirming_slot = here.0
+
+  long : slot < 64 * length ws
+  long = omega (arith, c.eight, here.0)
+
+  -- the next candidate is an answer
+  pub confirming_put : (b : Bool) → b ≡ test slot → b ≡ true → Confirming test cs (inserted ws slot) later
+  confirming_put b d y = record {
+    eight = unfold inserted in (length-set ws (slot / 64) _ ∙ c.eight);
+    ahead = λ s i. c.ahead s (rw head (inr i));
+    sound = λ s h. sound s (ℕ_discrete s slot) h;
+    full = λ s l h t. full s (ℕ_discrete s slot) (c.full s l h t);
   }
     where
-      size : (b : Bool) → length (pick b (inserted ws slot) ws) ≡ 8
-      size true = unfold inserted in (length-set ws (slot / 64) _ ∙ c.eight)
-      size false = c.eight
+      sound : (s : ℕ) → Dec (s ≡ slot) → has (inserted ws slot) s ≡ 1 → (has cs s ≡ 1) × (test s ≡ true)
+      sound s (yes e) h = rw e (here.1, sym d ∙ y)
+      sound s (no n) h = c.sound s (sym (has_insert_other ws slot s n long) ∙ h)
 
-      other : (b : Bool) (s : ℕ) → (s ≡ slot → ⊥) → has (pick b (inserted ws slot) ws) s ≡ has ws s
-      other true s z = has_insert_other ws slot s z long
-      other false s z = refl
+      full : (s : ℕ) → Dec (s ≡ slot) → (has ws s ≡ 1) ⊎ In s now → (has (inserted ws slot) s ≡ 1) ⊎ In s later
+      full s (yes e) i = inl (rw e (has_insert_same ws slot long))
+      full s (no n) (inl h) = inl (has_insert_other ws slot s n long ∙ h)
+      full s (no n) (inr i) = ⊎_elim (λ (e : s ≡ slot). absurd (n e)) (λ (j : In s later). inr j) (rw head at i)
 
-      later : (b : Bool) (s : ℕ) → slot < s → has (pick b (inserted ws slot) ws) s ≡ 0
-      later b s l = other b s (λ z. omega (arith, z, l)) ∙ c.ahead s (omega arith)
+  -- the next candidate is none
+  pub confirming_pass : (b : Bool) → b ≡ test slot → b ≡ false → Confirming test cs ws later
+  confirming_pass b d y = record {
+    eight = c.eight;
+    ahead = λ s i. c.ahead s (rw head (inr i));
+    sound = c.sound;
+    full = λ s l h t. full s t (c.full s l h t);
+  }
+    where
+      full : (s : ℕ) → test s ≡ true → (has ws s ≡ 1) ⊎ In s now → (has ws s ≡ 1) ⊎ In s later
+      full s t (inl h) = inl h
+      full s t (inr i) = ⊎_elim (λ (e : s ≡ slot). clash (sym y ∙ d ∙ ap test (sym e) ∙ t)) (λ (j : In s later). inr j) (rw head at i)
 
-      this : (b : Bool) → b ≡ test slot → (has (pick b (inserted ws slot) ws) slot ≡ 1) ↔ ((has cs slot ≡ 1) × (test slot ≡ true))
-      this true d = ((λ z. (c.here h, sym d)), (λ z. has_insert_same ws slot long))
-      this false d = ((λ z. absurd (let y = c.ahead slot (omega arith) in omega (arith, y, z))), (λ z. clash (d ∙ z.1)))
+pub confirming_end : (test : ℕ → Bool) (cs ws now : List ℕ) → Confirming test cs ws now → now ≡ [] → members ws ≡ those test (members cs)
+confirming_end test cs ws now c e = those_members test cs ws (λ s l. (c.sound s, λ z. ⊎_elim (λ (h : has ws s ≡ 1). h) (λ (i : In s []). absurd i) (rw e at (c.full s l z.0 z.1))))
 
-      done : (s : ℕ) → s < slot' → Dec (s < slot) → Dec (s ≡ slot) → (has ws' s ≡ 1) ↔ ((has cs s ≡ 1) × (test s ≡ true))
-      done s l (yes m) z = rw (e, other b s (λ y. omega (arith, y, m))) (c.done s m)
-      done s l (no m) (yes z) = rw (z, e) (this b d)
-      done s l (no m) (no z) = neither (has ws' s) (has cs s) _ (rw e (later b s (omega arith))) (n.passed s (omega arith) l)
-
-pub confirming_end : (test : ℕ → Bool) (cs ws : List ℕ) (slot : ℕ) → Confirming test cs ws slot → slot_count ≤ slot → members ws ≡ those test (members cs)
-confirming_end test cs ws slot c h = those_members test cs ws (λ s l. c.done s (omega arith))
-
+-- a choice whose test is known
 pub pick_yes : (b : Bool) (x y z : List ℕ) → b ≡ true → z ≡ x → z ≡ pick b x y
 pick_yes b x y z e h = rw e h
 

@@ -10,10 +10,9 @@ ghost use Rattle.confirming.specs.Confirms.{confirms_term, those};
 ghost use Rattle.laws.specs.Sizes.{bytes_length};
 
 use checking::is_term;
-use laws::SLOTS;
 use slots::SlotSet;
 
-// Does a stored term stand in the relation to the question.
+// Does a stored term stand in the relation to the question. A number, and no enum: the clause holds of every number.
 fn stands(relation: usize, sig: &[u8], t: &[u8], q: &[u8]) -> bool
     requires { Signed sig.now × (refusal sig.now q.now ≡ 0) }
     ensures { result ≡ confirms_term sig.now relation t.now q.now }
@@ -21,19 +20,13 @@ fn stands(relation: usize, sig: &[u8], t: &[u8], q: &[u8]) -> bool
     if relation == 0 {
         return matching::equal(t, q);
     }
-    if !is_term(sig, t) {
-        return false;
-    }
-    if relation == 1 {
-        return matching::variant(sig, q, t);
-    }
-    if relation == 2 {
-        return matching::instance(sig, q, t);
-    }
-    if relation == 3 {
-        return matching::instance(sig, t, q);
-    }
-    unifiable::unifiable(sig, t, q)
+    is_term(sig, t)
+        && match relation {
+            1 => matching::variant(sig, q, t),
+            2 => matching::instance(sig, q, t),
+            3 => matching::instance(sig, t, q),
+            _ => unifiable::unifiable(sig, t, q),
+        }
 }
 
 // The candidates whose term stands in the relation to the question.
@@ -50,12 +43,10 @@ pub fn confirmed(
         (members candidates.words) }
 {
     let mut answers = SlotSet::empty();
-    let mut slot = listing::next(candidates, 0);
-    while slot < SLOTS {
+    for slot in listing::members(candidates) {
         if stands(relation, sig, layout::term(bytes, slot), q) {
             answers = answers.insert(slot);
         }
-        slot = listing::next(candidates, slot + 1);
     }
     answers
 }

@@ -11,13 +11,13 @@ use lib.Seq.{sets}
 use Rattle.laws.specs.Choice.{pick}
 use Rattle.slots.specs.Slots.{has, removed}
 use Rattle.slots.specs.Sets.{has_beyond}
+use Rattle.std.specs.Prelude.{Ok, Err}
 use Rattle.refusals.specs.declared.Refusal.TheVariants as Refusal
 use Rattle.keysets.specs.KeySets.{Sets}
 use Rattle.paths.specs.Insert.{St}
 use Rattle.layout.specs.Layout.{used_of, is_used}
 use Rattle.layout.specs.Tables.{Tables, held, ample}
 use Rattle.termkeys.specs.Fill.{tables, del_fill}
-use Rattle.calls.specs.declared.Reply.TheVariants as Reply
 use Rattle.calls.specs.Outcome.{outcome, told}
 use Rattle.store.specs.Kept.{length_used}
 use Rattle.store.specs.Tables.{index_of, KeysIn, renewed, deleted_at}
@@ -34,18 +34,18 @@ used_is u ws s r e f = go (dec_lt s slot_count)
     go (no h) = let b : slot_count ≤ s = omega arith in rw (le-ltb s slot_count b, f, e, has_beyond (used_of u) s (length_used u) b)
 
 module _ (T : Tables) (s : ℕ) where
-  pub delete_short : ample T ≡ false → outcome (Reply.Refused Refusal.Table) T [] ≡ told [] (deleting T s)
+  pub delete_short : ample T ≡ false → outcome (Err Refusal.Table) T [] ≡ told [] (deleting T s)
   unfolding deleting
   delete_short a = too_short T (deleted_at T s) [] _ a
 
   module _ (ws : List ℕ) (r : Bool) (a : ample T ≡ true) (e : ws ≡ used_of T.used) (f : r ≡ eqb (has ws s) 1) where
-    pub delete_none : r ≡ false → outcome (Reply.Refused Refusal.Slot) T [] ≡ told [] (deleting T s)
+    pub delete_none : r ≡ false → outcome (Err Refusal.Slot) T [] ≡ told [] (deleting T s)
     unfolding deleting
     delete_none h = let z = sym (used_is T.used ws s r e f) ∙ h in refuses T (deleted_at T s) [] _ Refusal.Slot a (rw z)
 
     pub delete_done : (u' l' k' c' d' e' f' vs ks : List ℕ) (n : ℕ) → r ≡ true → KeysIn T.bytes T.link T.label s n ks
         → tables k' l' c' d' e' f' ≡ del_fill (tables T.link T.label T.s0 T.s1 T.s2 T.s3) ks s n
-        → vs ≡ removed ws s → u' ≡ sets T.used 0 (used_of vs) → outcome (Reply.Done s 0) (held T.bytes u' l' k' c' d' e' f') [] ≡ told [] (deleting T s)
+        → vs ≡ removed ws s → u' ≡ sets T.used 0 (used_of vs) → outcome (Ok (record { first = s; second = 0 })) (held T.bytes u' l' k' c' d' e' f') [] ≡ told [] (deleting T s)
     unfolding deleting deleted_at
     delete_done u' l' k' c' d' e' f' vs ks n h K p x y =
         let z = sym (used_is T.used ws s r e f) ∙ h in

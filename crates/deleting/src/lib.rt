@@ -6,12 +6,13 @@ ghost use Rattle.layout.specs.Tables.{held};
 ghost use Rattle.calls.specs.Outcome.{outcome, told};
 ghost use Rattle.store.specs.Calls.{deleting};
 
-use calls::Reply;
+use calls::{Numbers, Reply};
 use layout::lengths_suffice;
 use refusals::Refusal;
 use store::keys_in;
 
 // Frees the slot.
+#[tactic(auto, using(calls::proofs::Public::lengths))]
 pub fn delete(
     bytes: &mut [u8],
     used: &mut [u64],
@@ -41,15 +42,18 @@ pub fn delete(
         s2.len(),
         s3.len(),
     ) {
-        return Reply::Refused(Refusal::Table);
+        return Err(Refusal::Table);
     }
     let set = layout::slots_used(used);
     if !set.contains(slot) {
-        return Reply::Refused(Refusal::Slot);
+        return Err(Refusal::Slot);
     }
     let mut keys = [0u16; 32];
     let n = keys_in(bytes, link, label, slot, &mut keys);
     termkeys::delete_all(link, label, s0, s1, s2, s3, &keys, n, slot);
     filling::put_used(used, set.remove(slot));
-    Reply::Done(slot, 0)
+    Ok(Numbers {
+        first: slot,
+        second: 0,
+    })
 }

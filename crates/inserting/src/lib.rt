@@ -6,13 +6,13 @@ ghost use Rattle.layout.specs.Tables.{held};
 ghost use Rattle.calls.specs.Outcome.{outcome, told};
 ghost use Rattle.store.specs.Calls.{inserting};
 
-use calls::Reply;
-use laws::SLOTS;
+use calls::{Numbers, Reply};
 use layout::lengths_suffice;
-use refusals::{Checked, Refusal};
+use refusals::Refusal;
 use store::{fits, outline_of};
 
 // Takes the smallest slot not in use.
+#[tactic(auto, using(calls::proofs::Public::lengths))]
 pub fn insert(
     bytes: &mut [u8],
     used: &mut [u64],
@@ -42,25 +42,18 @@ pub fn insert(
         s2.len(),
         s3.len(),
     ) {
-        return Reply::Refused(Refusal::Table);
+        return Err(Refusal::Table);
     }
     let sig = layout::signature(bytes);
-    let checked = checking::check(sig, t);
-    if let Checked::Refused(why) = checked {
-        return Reply::Refused(why);
-    }
+    checking::check(sig, t)?;
     let set = layout::slots_used(used);
-    let free = listing::least(algebra::complement(set));
-    if SLOTS <= free {
-        return Reply::Refused(Refusal::Full);
-    }
+    let Some(free) = listing::least(algebra::complement(set)) else {
+        return Err(Refusal::Full);
+    };
     let o = outline_of(sig, t);
     if !fits(link, label, o) {
-        return Reply::Refused(Refusal::Keys);
+        return Err(Refusal::Keys);
     }
-    let n = o.items;
-    let ups = o.ups;
-    let ends = o.ends;
     let mut keys = [0u16; 32];
     termkeys::insert_all(
         link,
@@ -69,12 +62,15 @@ pub fn insert(
         s1,
         s2,
         s3,
-        &ups[..n],
-        &ends[..n],
+        &o.ups[..o.items],
+        &o.ends[..o.items],
         &mut keys,
         free,
     );
     filling::put_term(bytes, free, t);
     filling::put_used(used, set.insert(free));
-    Reply::Done(free, 0)
+    Ok(Numbers {
+        first: free,
+        second: 0,
+    })
 }

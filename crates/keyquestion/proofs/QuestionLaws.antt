@@ -11,13 +11,13 @@ use Rattle.keys.specs.Bytes.{is_key}
 use Rattle.keysets.specs.KeySets.{four, met}
 use Rattle.layout.specs.Layout.{signature_of, used_of}
 use Rattle.layout.specs.Tables.{Tables, ample}
-use Rattle.calls.specs.declared.Reply.TheVariants as Reply
+use Rattle.std.specs.Prelude.{Ok, Err}
 use Rattle.calls.specs.Outcome.{outcome, told}
 use Rattle.store.specs.Tables.{key_number, slots_of_key}
 use Rattle.store.specs.Calls.{key_question}
 use Rattle.calls.proofs.Public.{too_short, refuses, answers}
 
-pub ask_short : (T : Tables) (k out : List ℕ) → ample T ≡ false → outcome (Reply.Refused Refusal.Table) T out ≡ told out (key_question T k (length out))
+pub ask_short : (T : Tables) (k out : List ℕ) → ample T ≡ false → outcome (Err Refusal.Table) T out ≡ told out (key_question T k (length out))
 unfolding key_question
 ask_short T k out a = too_short T T out _ a
 
@@ -25,7 +25,7 @@ module _ (T : Tables) (sig k out : List ℕ) (r : Bool) (a : ample T ≡ true) (
   key_is : (b : Bool) → r ≡ b → is_key (signature_of T.bytes) k ≡ b
   key_is b f = rw g at (sym e ∙ f)
 
-  pub ask_bad : r ≡ false → outcome (Reply.Refused Refusal.Key) T out ≡ told out (key_question T k (length out))
+  pub ask_bad : r ≡ false → outcome (Err Refusal.Key) T out ≡ told out (key_question T k (length out))
   unfolding key_question
   ask_bad f = refuses T T out _ Refusal.Key a (rw (key_is false f))
 
@@ -35,13 +35,13 @@ module _ (T : Tables) (sig k out : List ℕ) (r : Bool) (a : ample T ≡ true) (
     unfolding slots_of_key
     slots_are = rw (w, y, x)
 
-    pub ask_room : length out < 2 * n → outcome (Reply.Refused Refusal.Room) T out' ≡ told out (key_question T k (length out))
+    pub ask_room : length out < 2 * n → outcome (Err Refusal.Room) T out' ≡ told out (key_question T k (length out))
     unfolding key_question
     ask_room l =
         let z = lt-ltb (length out) (2 * length (members vs)) (rw h at l) in
         rw (o, into_none vs out (rw h at l)) (refuses T T out _ Refusal.Room a (rw (key_is true f, ← slots_are, z)))
 
-    pub ask_done : 2 * n ≤ length out → outcome (Reply.Done n 0) T out' ≡ told out (key_question T k (length out))
+    pub ask_done : 2 * n ≤ length out → outcome (Ok (record { first = n; second = 0 })) T out' ≡ told out (key_question T k (length out))
     unfolding key_question
     ask_done l =
         let z = le-ltb (length out) (2 * length (members vs)) (rw h at l) in

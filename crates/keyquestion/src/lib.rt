@@ -1,43 +1,46 @@
 // The key question over the lent tables (SCOPE.md, 'Store').
 #![tactic(auto)]
 
-ghost use Rattle.std.specs.Prelude.{◌≡◌, ◌≤◌, length};
+ghost use Rattle.std.specs.Prelude.{◌≡◌, ◌≤◌, length, unwrap_or};
 ghost use Rattle.layout.specs.Tables.{held};
 ghost use Rattle.calls.specs.Outcome.{outcome, told};
 ghost use Rattle.store.specs.Tables.{end_number, key_number};
 ghost use Rattle.store.specs.Calls.{key_question};
 ghost use Rattle.laws.specs.Sizes.{key_limit, link_length};
 
-use calls::Reply;
+use calls::{Numbers, Reply};
 use chains::find;
-use laws::{KEYS, ROOT, low16, number_at};
+use keysets::KeySets;
+use laws::{KEYS, ROOT, number_at};
 use layout::long_enough;
 use refusals::Refusal;
 use termkeys::label_of;
 
 // The end of a key as its label has it: the star is 256.
+#[tactic(auto, unfolding(store::specs::Tables::end_number))]
 fn end_number(e: usize) -> u16
     ensures { result ≡ end_number e }
 {
-    if e < 256 { low16(e) } else { 256 }
+    e.min(256) as u16
 }
 
-// The key that the bytes of a key name, or 4096.
-fn key_number(link: &[u16], label: &[u32], key: &[u8]) -> usize
+// The key that the bytes of a key name.
+fn key_number(link: &[u16], label: &[u32], key: &[u8]) -> Option<usize>
     requires { (link_length ≤ length link.now) × (key_limit ≤ length label.now) }
-    ensures { result ≡ key_number link.now label.now key.now }
+    ensures { unwrap_or result key_limit ≡ key_number link.now label.now key.now }
 {
-    let mut place: u32 = ROOT;
-    let mut rest = key;
-    while 2 < rest.len() {
-        let k = find(link, label, label_of(place, low16(number_at(rest, 0))));
-        place = termkeys::place_of(k, rest[2]);
-        rest = &rest[3..];
+    let steps = key.chunks_exact(3);
+    let end = steps.remainder();
+    if end.len() != 2 {
+        return None;
     }
-    if rest.len() != 2 {
-        return KEYS;
+    let mut place = ROOT;
+    for step in steps {
+        // 4096 for no key: the walk goes on at its places, as the definitions do, where a store has no key.
+        let k = find(link, label, label_of(place, number_at(step, 0) as u16)).unwrap_or(KEYS);
+        place = termkeys::place_of(k, step[2]);
     }
-    find(link, label, label_of(place, end_number(number_at(rest, 0))))
+    find(link, label, label_of(place, end_number(number_at(end, 0))))
 }
 
 // The slots in use whose term has the key.
@@ -62,16 +65,21 @@ pub fn with_key(
         key.now (length out.old)) }
 {
     if !long_enough(bytes, used, label, link, s0, s1, s2, s3) {
-        return Reply::Refused(Refusal::Table);
+        return Err(Refusal::Table);
     }
     if !keys::is_key(layout::signature(bytes), key) {
-        return Reply::Refused(Refusal::Key);
+        return Err(Refusal::Key);
     }
-    let k = key_number(link, label, key);
-    let set = keysets::meet(s0, s1, s2, s3, k, layout::slots_used(used));
+    // 4096 for no key: it meets no slot.
+    let k = key_number(link, label, key).unwrap_or(KEYS);
+    let sets = KeySets { s0, s1, s2, s3 };
+    let set = sets.meet(k, layout::slots_used(used));
     let n = listing::list(set, out);
     if out.len() < 2 * n {
-        return Reply::Refused(Refusal::Room);
+        return Err(Refusal::Room);
     }
-    Reply::Done(n, 0)
+    Ok(Numbers {
+        first: n,
+        second: 0,
+    })
 }

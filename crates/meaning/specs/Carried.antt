@@ -1,6 +1,6 @@
 -- Serves the demands (SCOPE.md, 'What the contracts owe'): what holds of every call on all tables, whatever they
 -- hold: it is refused with 1 exactly where a table is short, and a refused call changes nothing.
-use Rattle.std.specs.Prelude.{ℕ, ◌*◌, ◌%◌, ◌≡◌, refl, ◌⊎◌, ◌↔◌, ◌≢◌, Bool, true, false, List, ltb, eqb, length}
+use Rattle.std.specs.Prelude.{ℕ, ◌*◌, ◌%◌, ◌≡◌, refl, ◌⊎◌, ◌↔◌, ◌≢◌, Bool, true, false, List, ltb, eqb, length, Ok, Err}
 use Rattle.std.proofs.Common.{sym, ap, ◌∙◌, inl, inr, arith}
 use Rattle.std.proofs.Math.Option.{Option, some, none}
 use Rattle.std.proofs.lemmas.List.Edits.{sets}
@@ -19,9 +19,7 @@ use Rattle.definitions.specs.Answers.{recorded}
 use Rattle.layout.specs.Tables.{Tables, ample}
 use Rattle.layout.specs.Layout.{signature_of, is_used, term_of}
 use Rattle.library.specs.Store.{Call, open_with, insert, delete, with_key, retrieve, solve}
-use Rattle.calls.specs.declared.Reply.{Reply}
-use Rattle.calls.specs.declared.Reply.TheVariants.{Done, Refused}
-use Rattle.calls.specs.Outcome.{Outcome, outcome, Result, guarded}
+use Rattle.calls.specs.Outcome.{Reply, Outcome, outcome, Result, guarded}
 use Rattle.store.specs.Tables.{ups_of, ends_of, room_for, opened_with, free_slot, inserted_at, deleted_at, slots_of_key}
 use Rattle.store.specs.Calls.{opening, insert_answer, inserting, deleting, key_question}
 use Rattle.retrieve.specs.Retrieving.{answers_of, retrieve_answer, retrieving}
@@ -213,9 +211,9 @@ asks_quiet T c out₀ o d h = ap (λ (x : Outcome). x.after) d.is ∙ asks_left 
 -- EVERY OUTCOME IS ONE THAT A FUNCTION CAN ANSWER: its number is 0 or a name's
 reply_for : (a : Answer) (S : Tables) (out : List ℕ) → (refusal_in a ≡ 0) ⊎ ((w : Refusal) × (refusal_in a ≡ number_of w))
     → (r : Reply) × (outcome r S out ≡ record { refused = refusal_in a; first = first_in a; second = second_in a; after = S; out = out })
-reply_for (done x y w) S out h = (Done x y, refl)
-reply_for (refused n) S out (inl z) = (Done 0 0, rw z)
-reply_for (refused n) S out (inr h) = (Refused h.0, rw h.1)
+reply_for (done x y w) S out h = (Ok (record { first = x; second = y }), refl)
+reply_for (refused n) S out (inl z) = (Ok (record { first = 0; second = 0 }), rw z)
+reply_for (refused n) S out (inr h) = (Err h.0, rw h.1)
 
 answer_of_name : (T : Tables) (c : Call) → (refusal_in (carried T c).answer ≡ 0) ⊎ ((w : Refusal) × (refusal_in (carried T c).answer ≡ number_of w))
 answer_of_name T c = let g = call_guarded T c in rw g.is (go (ample T) g.rest g.other)

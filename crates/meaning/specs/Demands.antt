@@ -57,8 +57,7 @@ use Rattle.library.specs.Readable.{candidates_are, candidates_ascend}
 use Rattle.library.specs.Readable.{solve_none, solve_long, solve_writes, solve_solved}
 use Rattle.library.specs.Store.{Store, Call, open_with, insert, delete, with_key, retrieve, solve}
 use Rattle.library.specs.Store.{room_of, answered, empty, after, first_free, keyed, answers, candidates as candidates_in}
-use Rattle.calls.specs.declared.Reply.{Reply}
-use Rattle.calls.specs.Outcome.{Outcome, outcome, told}
+use Rattle.calls.specs.Outcome.{Reply, Outcome, outcome, told}
 use Rattle.retrieve.specs.Retrieving.{candidates_of}
 use Rattle.meaning.specs.Stand.{Stand, Means, stand_ample, stand_sound}
 use Rattle.meaning.specs.Confirmed.{candidates_are as walked_are}

@@ -6,12 +6,12 @@ ghost use Rattle.layout.specs.Tables.{held};
 ghost use Rattle.calls.specs.Outcome.{outcome, told};
 ghost use Rattle.store.specs.Calls.{opening};
 
-use calls::Reply;
+use calls::{Numbers, Reply};
 use chains::free_all;
-use filling::{clear32, clear64};
-use laws::{KEYS, SETS};
+use filling::clear;
+use laws::{KEYS, SETS, USED};
 use layout::lengths_suffice;
-use refusals::{Checked, Refusal};
+use refusals::Refusal;
 
 // Sets the signature and empties all.
 pub fn open(
@@ -43,19 +43,19 @@ pub fn open(
         s2.len(),
         s3.len(),
     ) {
-        return Reply::Refused(Refusal::Table);
+        return Err(Refusal::Table);
     }
-    let checked = terms::check_signature(sig);
-    if let Checked::Refused(why) = checked {
-        return Reply::Refused(why);
-    }
+    terms::check_signature(sig)?;
     filling::put_signature(bytes, sig);
-    clear64(used, 8);
-    clear32(label, KEYS);
+    clear(used, USED);
+    clear(label, KEYS);
     free_all(link);
-    clear64(s0, SETS);
-    clear64(s1, SETS);
-    clear64(s2, SETS);
-    clear64(s3, SETS);
-    Reply::Done(0, 0)
+    clear(s0, SETS);
+    clear(s1, SETS);
+    clear(s2, SETS);
+    clear(s3, SETS);
+    Ok(Numbers {
+        first: 0,
+        second: 0,
+    })
 }

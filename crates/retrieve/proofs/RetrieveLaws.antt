@@ -7,8 +7,8 @@ use borrow.Author.Tests.{lt-ltb, le-ltb, eq-eqb}
 use lib.ListN.{length}
 use Rattle.slots.specs.Slots.{members, listed, listed_into, into_none, into_all}
 use Rattle.terms.specs.Terms.{refusal}
-use Rattle.refusals.specs.Refusals.{checked_number}
-use Rattle.refusals.specs.declared.Checked.{Checked}
+use Rattle.std.specs.Prelude.{Ok, Err}
+use Rattle.refusals.specs.Refusals.{number_of}
 use Rattle.refusals.specs.declared.Refusal.{Refusal}
 use Rattle.keysets.specs.KeySets.{four}
 use Rattle.definitions.specs.Candidates.{opens, stars}
@@ -17,26 +17,25 @@ use Rattle.candidates.specs.Walk.{walk}
 use Rattle.confirming.specs.Confirms.{confirms_term, those}
 use Rattle.layout.specs.Layout.{term_of, signature_of, used_of}
 use Rattle.layout.specs.Tables.{Tables, ample}
-use Rattle.calls.specs.declared.Reply.{Reply}
 use Rattle.calls.specs.Outcome.{outcome, told}
 use Rattle.calls.proofs.Public.{too_short, refuses, answers, bad}
 use Rattle.retrieve.specs.Retrieving.{candidates_of, confirms, answers_of, retrieve_answer, retrieving}
 use Rattle.laws.specs.Sizes.{root_place}
 
 module _ (T : Tables) (r : ℕ) (q out : List ℕ) where
-  pub retrieving_table : ample T ≡ false → outcome (Reply.Refused Refusal.Table) T out ≡ told out (retrieving T r q (length out))
+  pub retrieving_table : ample T ≡ false → outcome (Err Refusal.Table) T out ≡ told out (retrieving T r q (length out))
   unfolding retrieving
   retrieving_table a = too_short T T out _ a
 
   module _ (a : ample T ≡ true) where
-    pub retrieving_relation : 4 < r → outcome (Reply.Refused Refusal.Relation) T out ≡ told out (retrieving T r q (length out))
+    pub retrieving_relation : 4 < r → outcome (Err Refusal.Relation) T out ≡ told out (retrieving T r q (length out))
     unfolding retrieving retrieve_answer
     retrieving_relation h = refuses T T out _ Refusal.Relation a (rw (lt-ltb 4 r h))
 
     module _ (h : r ≤ 4) (sig : List ℕ) (s : sig ≡ signature_of T.bytes) where
-      pub retrieving_question : (k : Checked) (w : Refusal) → checked_number k ≡ refusal sig q → k ≡ Checked.Refused w → outcome (Reply.Refused w) T out ≡ told out (retrieving T r q (length out))
+      pub retrieving_question : (w : Refusal) → number_of w ≡ refusal sig q → outcome (Err w) T out ≡ told out (retrieving T r q (length out))
       unfolding retrieving retrieve_answer
-      retrieving_question k w p g = refuses T T out _ w a (rw (le-ltb 4 r h) (bad (refusal (signature_of T.bytes) q) k (rw (← s) p) w _ g))
+      retrieving_question w p = refuses T T out _ w a (rw (le-ltb 4 r h) (bad (refusal (signature_of T.bytes) q) (Err w) (rw (← s) p) w _ refl))
 
       -- the sets that were looked at
       module _ (g : refusal sig q ≡ 0) (cs u ws : List ℕ) (j : u ≡ used_of T.used) (c : cs ≡ walk T.link T.label (four T.s0 T.s1 T.s2 T.s3) (opens r) (stars r) (tree_of sig q) root_place u)
@@ -54,14 +53,14 @@ module _ (T : Tables) (r : ℕ) (q out : List ℕ) where
             let z : those (λ x. confirms_term sig r (term_of T.bytes x) q) (members cs) ≡ answers_of T r q = rw (s, candidates_are) in
             b ∙ z
 
-        pub retrieving_room : (n : ℕ) (out' : List ℕ) → n ≡ length (members ws) → length out < 2 * n → out' ≡ listed_into ws out → outcome (Reply.Refused Refusal.Room) T out' ≡ told out (retrieving T r q (length out))
+        pub retrieving_room : (n : ℕ) (out' : List ℕ) → n ≡ length (members ws) → length out < 2 * n → out' ≡ listed_into ws out → outcome (Err Refusal.Room) T out' ≡ told out (retrieving T r q (length out))
         unfolding retrieving retrieve_answer
         retrieving_room n out' f l w =
             let o : length out < 2 * length (members ws) = rw f at l in
             let o' : length out < 2 * length (answers_of T r q) = rw (← answers_are) o in
             rw (w, into_none ws out o) (refuses T T out _ Refusal.Room a (rw (le-ltb 4 r h, eq-eqb _ 0 taken, lt-ltb _ _ o')))
 
-        pub retrieving_done : (m n : ℕ) (out' : List ℕ) → m ≡ length (members cs) → n ≡ length (members ws) → 2 * n ≤ length out → out' ≡ listed_into ws out → outcome (Reply.Done m n) T out' ≡ told out (retrieving T r q (length out))
+        pub retrieving_done : (m n : ℕ) (out' : List ℕ) → m ≡ length (members cs) → n ≡ length (members ws) → 2 * n ≤ length out → out' ≡ listed_into ws out → outcome (Ok (record { first = m; second = n })) T out' ≡ told out (retrieving T r q (length out))
         unfolding retrieving retrieve_answer
         retrieving_done m n out' i f l w =
             let o : 2 * length (members ws) ≤ length out = rw f at l in

@@ -6,9 +6,11 @@ ghost use Rattle.layout.specs.Tables.{held};
 ghost use Rattle.calls.specs.Outcome.{outcome, told};
 ghost use Rattle.retrieve.specs.Retrieving.{retrieving};
 
-use calls::Reply;
+use calls::{Numbers, Reply};
+use candidates::KeyTables;
+use keysets::KeySets;
 use layout::long_enough;
-use refusals::{Checked, Refusal};
+use refusals::Refusal;
 
 // The number of candidates, the number of answers, and the listing of the answers.
 pub fn retrieve(
@@ -33,22 +35,25 @@ pub fn retrieve(
         relation q.now (length out.old)) }
 {
     if !long_enough(bytes, used, label, link, s0, s1, s2, s3) {
-        return Reply::Refused(Refusal::Table);
+        return Err(Refusal::Table);
     }
+    // The relation stays a number: a caller's number may name none, and the call's promise is over all numbers.
     if 4 < relation {
-        return Reply::Refused(Refusal::Relation);
+        return Err(Refusal::Relation);
     }
     let sig = layout::signature(bytes);
-    let checked = checking::check(sig, q);
-    if let Checked::Refused(why) = checked {
-        return Reply::Refused(why);
-    }
+    checking::check(sig, q)?;
     let set = layout::slots_used(used);
-    let candidates = candidates::candidates(link, label, s0, s1, s2, s3, sig, relation, q, set);
+    let sets = KeySets { s0, s1, s2, s3 };
+    let tables = KeyTables { link, label, sets };
+    let candidates = candidates::candidates(tables, sig, relation, q, set);
     let answers = confirming::confirmed(bytes, relation, sig, q, candidates);
     let n = listing::list(answers, out);
     if out.len() < 2 * n {
-        return Reply::Refused(Refusal::Room);
+        return Err(Refusal::Room);
     }
-    Reply::Done(listing::size(candidates), n)
+    Ok(Numbers {
+        first: listing::size(candidates),
+        second: n,
+    })
 }

@@ -1,6 +1,6 @@
 -- Serves SCOPE.md, 'The solver's record' and refusals 13 to 15: what the running solver promises is the answer of the
 -- definitions.
-use Rattle.std.specs.Prelude.{ℕ, zero, suc, ◌+◌, ◌≤◌, ◌<◌, ◌≡◌, refl, List, Bool, true, false, ltb}
+use Rattle.std.specs.Prelude.{ℕ, zero, suc, ◌+◌, ◌≤◌, ◌<◌, ◌≡◌, refl, List, Bool, true, false, ltb, Result, Ok, Err}
 use Rattle.std.proofs.Common.{sym, ◌∙◌, arith, lt-ltb, le-ltb, ltb-true, ltb-false}
 use Rattle.std.proofs.Math.Path.{ap}
 use Rattle.std.proofs.Math.Option.{Option, some, none}
@@ -8,7 +8,7 @@ use Rattle.std.proofs.Math.Decide.{ℕ_discrete}
 use Rattle.std.proofs.Math.ListN.{length}
 use Rattle.std.proofs.lemmas.List.Edits.{sets, sets-eq}
 use Rattle.laws.specs.Choice.{pick}
-use Rattle.refusals.specs.declared.Refusal.TheVariants as Refusal
+use Rattle.refusals.specs.declared.Refusal.{Refusal}
 use Rattle.theory.specs.Flat.{Item}
 use Rattle.theory.specs.Unify.{Bind, full}
 use Rattle.theory.specs.Items.{items, shift, Fine}
@@ -20,12 +20,11 @@ use Rattle.definitions.specs.Records.{Unifier, record_of, count_of, written_fiel
 use Rattle.definitions.specs.Answers.{done, refuse, long_from, recorded}
 use Rattle.solution.specs.Filling.{front}
 use Rattle.solution.specs.Promise.{Promise}
-use Rattle.solution.specs.declared.Recorded.{Recorded}
-use Rattle.solution.specs.declared.Recorded.TheVariants.{Written, Nothing, Long, Room}
+use Rattle.solution.specs.declared.Written.{Written}
+use Rattle.solution.specs.declared.Unsolved.{Unsolved}
+use Rattle.solution.specs.declared.Unsolved.TheVariants.{Nothing, Long, Room}
 use Rattle.layout.specs.Tables.{Tables}
-use Rattle.calls.specs.declared.Reply.{Reply}
-use Rattle.calls.specs.declared.Reply.TheVariants.{Done, Refused}
-use Rattle.calls.specs.Outcome.{outcome, told, result, refused_told, done_told}
+use Rattle.calls.specs.Outcome.{Reply, outcome, told, result, refused_told, done_told}
 use Rattle.laws.specs.Sizes.{value_limit}
 use Rattle.terms.specs.Terms.{arity}
 
@@ -66,12 +65,16 @@ long_yes θ w = go (long_from θ 64 0) refl
 pub front_sets : (w out : List ℕ) → length w ≤ length out → front w out ≡ sets out 0 w
 front_sets w out h = let z : 0 + length w ≡ length w = omega arith in sym (rw z at (sets-eq w out 0 (omega arith)))
 
+-- the refusal for want of a record
+abbrev pub refusal_of : Unsolved → Refusal
+refusal_of Nothing = Refusal.Nothing
+refusal_of Long = Refusal.Long
+refusal_of Room = Refusal.Room
+
 -- what solve replies where the solver answered so
-abbrev pub reply_of : Recorded → Reply
-reply_of (Written m n) = Done m n
-reply_of Nothing = Refused Refusal.Nothing
-reply_of Long = Refused Refusal.Long
-reply_of Room = Refused Refusal.Room
+abbrev pub reply_of : Result Written Unsolved → Reply
+reply_of (Ok w) = Ok (record { first = w.fields; second = w.bytes })
+reply_of (Err why) = Err (refusal_of why)
 
 -- a and b are a stored term and a question, apart; out₀ before, out after
 module _ (sig : List ℕ) (a b : List Item) (T : Tables) (out₀ out : List ℕ) where
@@ -104,23 +107,23 @@ module _ (sig : List ℕ) (a b : List Item) (T : Tables) (out₀ out : List ℕ)
           let e = same_record θ (full B) v u in
           rw (long_no (full B) (same_short θ (full B) v u s), le-ltb (length out₀) (length (record_of (full B))) (omega (arith, l, ap length e)), c, d, e, same_count θ (full B) v u)
 
-  recorded_by : (o : Option (List Bind)) → RightBindings (arity sig) a b o → (k : Recorded) → Promise sig a b out₀ out k → outcome (reply_of k) T out ≡ told out₀ (result (recorded o (length out₀)) T T)
-  recorded_by none s (Written m n) p = absurd (s p.by p.unifier.mgu.sub p.unifier.mgu.unifies)
-  recorded_by none s Nothing p = rw p.1 (refused_told Refusal.Nothing T T out₀ _ refl)
-  recorded_by none s Long p = absurd (s p.0.by p.0.unifier.mgu.sub p.0.unifier.mgu.unifies)
-  recorded_by none s Room p = absurd (s p.0.by p.0.unifier.mgu.sub p.0.unifier.mgu.unifies)
-  recorded_by (some B) s (Written m n) p =
+  recorded_by : (o : Option (List Bind)) → RightBindings (arity sig) a b o → (k : Result Written Unsolved) → Promise sig a b out₀ out k → outcome (reply_of k) T out ≡ told out₀ (result (recorded o (length out₀)) T T)
+  recorded_by none s (Ok w) p = absurd (s p.by p.unifier.mgu.sub p.unifier.mgu.unifies)
+  recorded_by none s (Err Nothing) p = rw p.1 (refused_told Refusal.Nothing T T out₀ _ refl)
+  recorded_by none s (Err Long) p = absurd (s p.0.by p.0.unifier.mgu.sub p.0.unifier.mgu.unifies)
+  recorded_by none s (Err Room) p = absurd (s p.0.by p.0.unifier.mgu.sub p.0.unifier.mgu.unifies)
+  recorded_by (some B) s (Ok w) p =
       let u : Unifier sig a b (full B) = record { mgu = s.1; least = s.2 } in
-      done_told m n (record_of p.by) T T T out₀ out _ (told_record B u p.by p.unifier p.short m n p.fields p.bytes p.fits) refl (p.written ∙ front_sets (record_of p.by) out₀ p.fits)
-  recorded_by (some B) s Nothing p = absurd (p.0 (record { by = full B; sub = s.1.sub; same = s.1.unifies }))
-  recorded_by (some B) s Long p =
+      done_told w.fields w.bytes (record_of p.by) T T T out₀ out _ (told_record B u p.by p.unifier p.short w.fields w.bytes p.fields p.bytes p.fits) refl (p.written ∙ front_sets (record_of p.by) out₀ p.fits)
+  recorded_by (some B) s (Err Nothing) p = absurd (p.0 (record { by = full B; sub = s.1.sub; same = s.1.unifies }))
+  recorded_by (some B) s (Err Long) p =
       let u : Unifier sig a b (full B) = record { mgu = s.1; least = s.2 } in
       rw p.1 (refused_told Refusal.Long T T out₀ _ (told_long B u p.0.by p.0.unifier p.0.long))
-  recorded_by (some B) s Room p =
+  recorded_by (some B) s (Err Room) p =
       let u : Unifier sig a b (full B) = record { mgu = s.1; least = s.2 } in
       rw p.1 (refused_told Refusal.Room T T out₀ _ (told_room B u p.0.by p.0.unifier p.0.short p.0.room))
 
 -- the running solver's result is the record of the definitions
-pub recorded_told : (sig t q : List ℕ) → Fine sig t → Fine sig q → (T : Tables) (out₀ out : List ℕ) (k : Recorded) → Promise sig (items t) (shift 32 (items q)) out₀ out k
+pub recorded_told : (sig t q : List ℕ) → Fine sig t → Fine sig q → (T : Tables) (out₀ out : List ℕ) (k : Result Written Unsolved) → Promise sig (items t) (shift 32 (items q)) out₀ out k
     → outcome (reply_of k) T out ≡ told out₀ (result (recorded (bindings? sig t q) (length out₀)) T T)
 recorded_told sig t q f g T out₀ out k p = recorded_by sig (items t) (shift 32 (items q)) T out₀ out (bindings? sig t q) (bindings_right sig t q f g) k p

@@ -4,13 +4,25 @@
 ghost use Rattle.std.specs.Prelude.{◌≡◌, length};
 ghost use Rattle.layout.specs.Tables.{held};
 ghost use Rattle.calls.specs.Outcome.{outcome, told};
+ghost use Rattle.solving.specs.Recording.{refusal_of};
 ghost use Rattle.solving.specs.Solving.{solving};
 
-use calls::Reply;
+use calls::{Numbers, Reply};
 use checking::is_term;
 use layout::long_enough;
-use refusals::{Checked, Refusal};
-use solution::Recorded;
+use refusals::Refusal;
+use solution::Unsolved;
+
+// The refusal for want of a record.
+fn refusal_of(why: Unsolved) -> Refusal
+    ensures { result ≡ refusal_of why }
+{
+    match why {
+        Unsolved::Nothing => Refusal::Nothing,
+        Unsolved::Long => Refusal::Long,
+        Unsolved::Room => Refusal::Room,
+    }
+}
 
 // The record of a slot's term and a question, and the number of its fields and bytes.
 pub fn solve(
@@ -35,25 +47,20 @@ pub fn solve(
         slot q.now (length out.old)) }
 {
     if !long_enough(bytes, used, label, link, s0, s1, s2, s3) {
-        return Reply::Refused(Refusal::Table);
+        return Err(Refusal::Table);
     }
     if !layout::in_use(used, slot) {
-        return Reply::Refused(Refusal::Slot);
+        return Err(Refusal::Slot);
     }
     let sig = layout::signature(bytes);
-    let checked = checking::check(sig, q);
-    if let Checked::Refused(why) = checked {
-        return Reply::Refused(why);
-    }
+    checking::check(sig, q)?;
     let t = layout::term(bytes, slot);
     if !is_term(sig, t) {
-        return Reply::Refused(Refusal::Nothing);
+        return Err(Refusal::Nothing);
     }
-    let r = solution::record(sig, t, q, out);
-    match r {
-        Recorded::Written(fields, n) => Reply::Done(fields, n),
-        Recorded::Nothing => Reply::Refused(Refusal::Nothing),
-        Recorded::Long => Reply::Refused(Refusal::Long),
-        Recorded::Room => Reply::Refused(Refusal::Room),
-    }
+    let written = solution::record(sig, t, q, out).map_err(refusal_of)?;
+    Ok(Numbers {
+        first: written.fields,
+        second: written.bytes,
+    })
 }

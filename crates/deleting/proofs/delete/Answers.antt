@@ -9,9 +9,6 @@ use Rattle.deleting.proofs.delete.Goals as goal
 pub returns-then-not-lengths_suffice : goal.returns-then-not-lengths_suffice
 returns-then-not-lengths_suffice c = delete_short _ _ (ample_not _ _ c.lengths_suffice.ensures c.if-not-lengths_suffice.true)
 
-pub slots_used-set-requires : goal.slots_used-set-requires
-slots_used-set-requires c = (lengths _ _ _ _ _ _ _ _ _ c.lengths_suffice.ensures c.if-not-lengths_suffice.false).used
-
 pub returns-then-not-contains : goal.returns-then-not-contains
 returns-then-not-contains c = delete_none _ _ _ _ (ample_is _ _ c.lengths_suffice.ensures c.if-not-lengths_suffice.false) c.slots_used-set.ensures c.contains.ensures (c.if-not-contains.true)
 
@@ -20,9 +17,6 @@ keys_in-n-requires c = let L = lengths _ _ _ _ _ _ _ _ _ c.lengths_suffice.ensur
 
 pub delete_all-requires : goal.delete_all-requires
 delete_all-requires c = let q = in_use_small _ _ (sym (used_is _ _ _ _ c.slots_used-set.ensures c.contains.ensures) ∙ c.if-not-contains.false) in (sized _ _ _ _ _ _ _ _ (lengths _ _ _ _ _ _ _ _ _ c.lengths_suffice.ensures c.if-not-lengths_suffice.false), omega (arith, q), omega (arith, c.keys_in-n.auto.keys, c.keys_in-n.ensures.few))
-
-pub put_used-requires : goal.put_used-requires
-put_used-requires c = (lengths _ _ _ _ _ _ _ _ _ c.lengths_suffice.ensures c.if-not-lengths_suffice.false).used
 
 pub returns : goal.returns
 returns c = delete_done _ _ _ _ (ample_is _ _ c.lengths_suffice.ensures c.if-not-lengths_suffice.false) c.slots_used-set.ensures c.contains.ensures _ _ _ _ _ _ _ _ _ _ (c.if-not-contains.false) c.keys_in-n.ensures c.delete_all.ensures c.remove.ensures c.put_used.ensures

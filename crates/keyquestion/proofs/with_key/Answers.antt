@@ -1,4 +1,4 @@
-use native.Mathlib.Omega.{arith}
+use Rattle.std.proofs.Common.{arith, ◌∙◌}
 use Rattle.calls.proofs.Public.{ample_not, ample_is, lengths}
 use Rattle.keyquestion.proofs.QuestionLaws.{ask_short, ask_bad, ask_room, ask_done}
 use Rattle.keyquestion.proofs.with_key.Goals as goal
@@ -13,8 +13,8 @@ signature-requires c = let L = lengths _ _ _ _ _ _ _ _ _ c.long_enough.ensures c
 pub returns-then-not-is_key : goal.returns-then-not-is_key
 returns-then-not-is_key c = ask_bad _ _ _ _ _ (ample_is _ _ c.long_enough.ensures c.if-not-long_enough.false) c.signature.ensures c.is_key.ensures (c.if-not-is_key.true)
 
-pub key_number-k-requires : goal.key_number-k-requires
-key_number-k-requires c = let L = lengths _ _ _ _ _ _ _ _ _ c.long_enough.ensures c.if-not-long_enough.false in
+pub key_number-requires : goal.key_number-requires
+key_number-requires c = let L = lengths _ _ _ _ _ _ _ _ _ c.long_enough.ensures c.if-not-long_enough.false in
     (L.links, L.labels)
 
 pub slots_used-requires : goal.slots_used-requires
@@ -26,7 +26,7 @@ meet-set-requires c = let L = lengths _ _ _ _ _ _ _ _ _ c.long_enough.ensures c.
     record { l0 = L.l0; l1 = L.l1; l2 = L.l2; l3 = L.l3 }
 
 pub returns-then-out-n : goal.returns-then-out-n
-returns-then-out-n c = ask_room _ _ _ _ _ (ample_is _ _ c.long_enough.ensures c.if-not-long_enough.false) c.signature.ensures c.is_key.ensures _ _ _ _ _ (c.if-not-is_key.false) c.key_number-k.ensures c.slots_used.ensures c.meet-set.ensures c.list-n.ensures.0 c.list-n.ensures.2 (omega (arith, c.if-out-n.true))
+returns-then-out-n c = ask_room _ _ _ _ _ (ample_is _ _ c.long_enough.ensures c.if-not-long_enough.false) c.signature.ensures c.is_key.ensures _ _ _ _ _ (c.if-not-is_key.false) (c.unwrap_or-k.ensures ∙ c.key_number.ensures) c.slots_used.ensures c.meet-set.ensures c.list-n.ensures.0 c.list-n.ensures.2 (omega (arith, c.if-out-n.true))
 
 pub returns : goal.returns
-returns c = ask_done _ _ _ _ _ (ample_is _ _ c.long_enough.ensures c.if-not-long_enough.false) c.signature.ensures c.is_key.ensures _ _ _ _ _ (c.if-not-is_key.false) c.key_number-k.ensures c.slots_used.ensures c.meet-set.ensures c.list-n.ensures.0 c.list-n.ensures.2 (omega (arith, c.if-out-n.false))
+returns c = ask_done _ _ _ _ _ (ample_is _ _ c.long_enough.ensures c.if-not-long_enough.false) c.signature.ensures c.is_key.ensures _ _ _ _ _ (c.if-not-is_key.false) (c.unwrap_or-k.ensures ∙ c.key_number.ensures) c.slots_used.ensures c.meet-set.ensures c.list-n.ensures.0 c.list-n.ensures.2 (omega (arith, c.if-out-n.false))
