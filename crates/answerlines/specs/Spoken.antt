@@ -1,9 +1,8 @@
 -- SCOPE.md, 'The log program': the line of a reply by its order, as the code writes it; turns/proofs/Turning ties it
 -- to the words of turns/specs/Turns.
-use Rattle.std.specs.Prelude.{ℕ, ◌*◌, ◌/◌, min, Bool, true, false, List, [], length, take}
+use Rattle.std.specs.Prelude.{ℕ, ◌*◌, ◌/◌, min, Bool, true, false, List, [], length, take, Ok, Err}
 use Rattle.refusals.specs.Refusals.{number_of}
-use Rattle.calls.specs.declared.Reply.{Reply}
-use Rattle.calls.specs.declared.Reply.TheVariants.{Done, Refused}
+use Rattle.calls.specs.Outcome.{Reply}
 use Rattle.calls.specs.declared.Order.{Order}
 use Rattle.calls.specs.declared.Order.TheVariants.{Open, Insert, Delete, WithKey, Retrieve, Solve, Nothing}
 use Rattle.lines.specs.Lines.{plain_line, refused_line, slot_line, found_line, solved_line}
@@ -30,8 +29,8 @@ spoken_done (Solve s) word a b out = solved_line word a (take (min b (length out
 spoken_done Nothing word a b out = slot_line word a
 
 abbrev pub spoken : Order → Reply → List ℕ → List ℕ
-spoken order (Done a b) out = spoken_done order (spoken_word order) a b out
-spoken order (Refused why) out = refused_line (spoken_word order) (number_of why)
+spoken order (Ok n) out = spoken_done order (spoken_word order) n.first n.second out
+spoken order (Err why) out = refused_line (spoken_word order) (number_of why)
 
 -- the orders whose refusal stops the program
 abbrev pub ending : Order → Bool
@@ -44,5 +43,5 @@ ending (Solve s) = false
 ending Nothing = true
 
 abbrev pub stopping : Order → Reply → Bool
-stopping order (Done a b) = false
-stopping order (Refused why) = ending order
+stopping order (Ok n) = false
+stopping order (Err why) = ending order

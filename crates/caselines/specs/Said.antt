@@ -1,13 +1,12 @@
 -- SCOPE.md, 'Both sides of the edges' and 'Numbers of refusal': the line that a case prints. Its word is told by its
 -- first letter, and written here in ASCII: o open, i insert, g grow, d delete, k key, r retrieve, n numbers, s solve,
 -- m measure, a argument.
-use Rattle.std.specs.Prelude.{ℕ, ◌+◌, ◌*◌, ◌/◌, ◌%◌, min, List, [], ◌∷◌, ◌++◌, length, take, eqb}
+use Rattle.std.specs.Prelude.{ℕ, ◌+◌, ◌*◌, ◌/◌, ◌%◌, min, List, [], ◌∷◌, ◌++◌, length, take, eqb, Ok, Err}
 use Rattle.laws.specs.Choice.{pick}
 use Rattle.laws.specs.Sizes.{answer_room}
 use Rattle.refusals.specs.Refusals.{number_of}
 use Rattle.terms.specs.Terms.{arg_refusal, arg_bytes}
-use Rattle.calls.specs.declared.Reply.{Reply}
-use Rattle.calls.specs.declared.Reply.TheVariants.{Done, Refused}
+use Rattle.calls.specs.Outcome.{Reply}
 use Rattle.calls.specs.declared.Order.{Order}
 use Rattle.calls.specs.declared.Order.TheVariants.{Open, Insert, Delete, WithKey, Retrieve, Solve, Nothing}
 use Rattle.lines.specs.Lines.{ok, feed, figure, slot_list, plain_line, refused_line, slot_line, found_line, solved_line}
@@ -88,5 +87,5 @@ refusal_line case head why given =
 
 -- the line of a case, after its first three words
 abbrev pub said : Case → Reply → List ℕ → List ℕ → List ℕ → List ℕ
-said case (Done a b) head given out = done_line case head a b out
-said case (Refused why) head given out = refusal_line case head (number_of why) given
+said case (Ok n) head given out = done_line case head n.first n.second out
+said case (Err why) head given out = refusal_line case head (number_of why) given

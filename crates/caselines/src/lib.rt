@@ -1,53 +1,43 @@
 // The line of what a case got: its first three words, then the answer as the log program writes it.
 #![tactic(auto)]
 
-ghost use Rattle.std.specs.Prelude.{◌≡◌, ◌≤◌, ◌<◌, min};
+ghost use Rattle.std.specs.Prelude.{◌≡◌, ◌≤◌};
 ghost use Rattle.laws.specs.Sizes.{answer_room};
+ghost use Rattle.refusals.specs.Refusals.{number_of};
 ghost use Rattle.lines.specs.Lines.{Put};
 ghost use Rattle.caselines.specs.Said.{order_of, checksum_of, short_line, listed_line, argument_line, written_by};
 ghost use Rattle.caselines.specs.Said.{answer_line, done_line, refusal_line, said};
 
-use calls::{Order, Reply};
+use calls::{Numbers, Order, Reply};
 use casetext::Case;
-use laws::{ANSWER, low, wide};
+use laws::ANSWER;
+use refusals::Refusal;
 
 // The call that a case's word asks for.
 pub fn order_of(case: Case) -> Order
     ensures { result ≡ order_of case.word case.number }
 {
-    let word = case.word;
     let n = case.number;
-    match word {
+    match case.word {
         b'o' => Order::Open,
-        b'i' => Order::Insert,
-        b'g' => Order::Insert,
+        b'i' | b'g' => Order::Insert,
         b'd' => Order::Delete(n),
         b'k' => Order::WithKey,
-        b'r' => Order::Retrieve(n),
-        b'n' => Order::Retrieve(n),
-        b's' => Order::Solve(n),
-        b'm' => Order::Solve(n),
+        b'r' | b'n' => Order::Retrieve(n),
+        b's' | b'm' => Order::Solve(n),
         _ => Order::Nothing,
     }
 }
 
-fn least(a: usize, b: usize) -> usize
-    ensures { result ≡ min a b }
-{
-    if a < b { a } else { b }
-}
-
 // A number that depends on each byte and its place.
-fn checksum(bytes: &[u8]) -> usize
-    ensures { (result ≡ checksum_of bytes.now) × (result < 65521) }
+fn checksum(bytes: &[u8]) -> u16
+    ensures { result ≡ checksum_of bytes.now }
 {
     let mut sum: usize = 0;
-    let mut i: usize = 0;
-    while i < bytes.len() {
-        sum = (sum * 31 + wide(bytes[i])) % 65521;
-        i += 1;
+    for b in bytes {
+        sum = (sum * 31 + *b as usize) % 65521;
     }
-    sum
+    sum as u16
 }
 
 // Two numbers and the checksum of some bytes, for answers too long to print.
@@ -55,9 +45,7 @@ fn short_line(line: &mut [u8], head: &[u8], a: usize, b: usize, bytes: &[u8]) ->
     ensures { Put line.old line.new 0
         (short_line head.now a b bytes.now) result }
 {
-    let sum = checksum(bytes);
-    let two = [low(sum / 256), low(sum % 256)];
-    lines::found_line(line, head, a, b, &two)
+    lines::found_line(line, head, a, b, &checksum(bytes).to_be_bytes())
 }
 
 // The number of slots of a listing, and the slots.
@@ -78,9 +66,8 @@ fn say_argument(i: usize, term: &[u8], head: &[u8], line: &mut [u8]) -> usize
         (argument_line head.now term.now i) result }
 {
     let sig = [0u8, 0, 2, 1];
-    let refused = arguments::argument_refusal(&sig, term, i);
-    if refused != 0 {
-        return lines::refused_line(line, head, refused);
+    if let Err(why) = arguments::check_argument(&sig, term, i) {
+        return lines::refused_line(line, head, why.number());
     }
     let part = arguments::argument(&sig, term, i);
     lines::solved_line(line, head, part.len(), part)
@@ -91,13 +78,10 @@ fn written(order: Order, first: usize, second: usize) -> usize
     ensures { (result ≡ written_by order first second) × (result ≤ answer_room) }
 {
     match order {
-        Order::WithKey => least(first, ANSWER / 2) * 2,
-        Order::Retrieve(_) => least(second, ANSWER / 2) * 2,
-        Order::Solve(_) => least(second, ANSWER),
-        Order::Open => 0,
-        Order::Insert => 0,
-        Order::Delete(_) => 0,
-        Order::Nothing => 0,
+        Order::WithKey => first.min(ANSWER / 2) * 2,
+        Order::Retrieve(_) => second.min(ANSWER / 2) * 2,
+        Order::Solve(_) => second.min(ANSWER),
+        Order::Open | Order::Insert | Order::Delete(_) | Order::Nothing => 0,
     }
 }
 
@@ -118,8 +102,7 @@ fn say_bytes(
         b'k' => listed_line(line, head, first, bytes),
         b'r' => lines::found_line(line, head, first, second, bytes),
         b's' => lines::solved_line(line, head, first, bytes),
-        b'n' => short_line(line, head, first, second, bytes),
-        b'm' => short_line(line, head, first, second, bytes),
+        b'n' | b'm' => short_line(line, head, first, second, bytes),
         _ => lines::slot_line(line, head, first),
     }
 }
@@ -136,22 +119,19 @@ fn say_done(
         (done_line case head.now first second out.now) result }
 {
     let n = written(order_of(case), first, second);
-    let answer = &out[..];
-    say_bytes(case.word, first, second, head, &answer[..n], line)
+    say_bytes(case.word, first, second, head, &out[..n], line)
 }
 
 // LOG says that the word is no call: `argument`, or one that says nothing.
-fn say_refused(case: Case, number: u8, head: &[u8], given: &[u8], line: &mut [u8]) -> usize
+fn say_refused(case: Case, why: Refusal, head: &[u8], given: &[u8], line: &mut [u8]) -> usize
     ensures { Put line.old line.new 0
-        (refusal_line case head.now number given.now) result }
+        (refusal_line case head.now (number_of why) given.now) result }
 {
-    if number != 16 {
-        return lines::refused_line(line, head, number);
+    match why {
+        Refusal::Log if case.word == b'a' => say_argument(case.number, given, head, line),
+        Refusal::Log => 0,
+        _ => lines::refused_line(line, head, why.number()),
     }
-    if case.word == b'a' {
-        return say_argument(case.number, given, head, line);
-    }
-    0
 }
 
 // Writes the line of a case, and answers its length.
@@ -167,7 +147,7 @@ pub fn say(
         (said case reply head.now given.now out.now) result }
 {
     match reply {
-        Reply::Done(first, second) => say_done(case, first, second, head, out, line),
-        Reply::Refused(why) => say_refused(case, why.number(), head, given, line),
+        Ok(Numbers { first, second }) => say_done(case, first, second, head, out, line),
+        Err(why) => say_refused(case, why, head, given, line),
     }
 }

@@ -1,50 +1,18 @@
--- Laws of what a case lends and of the place after it: each way out of main.rt is the definition of Lent.antt.
-use Prim.Native.Nat.{ℕ, ◌+◌, ◌-◌, ◌≤◌, ◌<◌, min}
+-- The law of what a case lends: the call of main.rt is that of Lent.antt.
+use Prim.Native.Nat.{ℕ, ◌≤◌}
 use mathlib.Core.Path.{◌≡◌, refl, sym, ap, ◌∙◌}
 use mathlib.Core.List.{List, ◌++◌}
-use borrow.Author.Tests.{ne_eqb, eq-eqb, lt-ltb, le-ltb}
 use lib.ListN.{length, take, drop}
 use lib.Seq.{length-take-le}
-use lib.Dec.{eqb}
-use Rattle.laws.specs.Choice.{pick}
-use Rattle.laws.specs.Sizes.{answer_room}
 use Rattle.layout.specs.Tables.{Tables, held}
-use Rattle.calls.specs.declared.Reply.{Reply}
-use Rattle.calls.specs.declared.Reply.TheVariants.{Done, Refused}
-use Rattle.calls.specs.Outcome.{Outcome, outcome, told}
+use Rattle.std.specs.Prelude.{Ok, Err}
+use Rattle.calls.specs.Outcome.{Reply, Outcome, outcome, told}
 use Rattle.calls.specs.declared.Order.{Order}
 use Rattle.orders.specs.Orders.{ordered}
 use Rattle.casetext.specs.declared.Case.{Case}
 use Rattle.cases.specs.declared.Place.{Place}
 use Rattle.caselines.specs.Said.{order_of}
-use Rattle.cases.specs.Lent.{lent_length, case_outcome, room_after, case_after}
-
-pub cut_other : (short table n : ℕ) → (table ≡ short → ⊥) → n ≡ lent_length short table n
-cut_other short table n h = rw (ne_eqb table short h) refl
-
-pub cut_short : (short table n r : ℕ) → table ≡ short → r ≡ n - 1 → r ≡ lent_length short table n
-cut_short short table n r h e = rw (eq-eqb table short h) e
-
-pub room_other : (case : Case) (room : ℕ) → (case.word ≡ 98 → ⊥) → room ≡ room_after case room
-room_other case room h = rw (ne_eqb case.word 98 h) refl
-
-pub room_set : (case : Case) (room r : ℕ) → case.word ≡ 98 → r ≡ min case.number answer_room → r ≡ room_after case room
-room_set case room r h e = rw h e
-
-pub place_again : (case : Case) (place : Place) → 0 < case.left
-    → ◌≡◌ {A = Place} (record { at = place.at; round = place.round + 1; room = place.room; short = place.short }) (case_after case place)
-place_again case place h = rw (lt-ltb 0 case.left h) refl
-
-pub place_next : (case : Case) (place : Place) (room short : ℕ) → case.left ≤ 0 → room ≡ room_after case place.room
-    → short ≡ pick (eqb case.word 116) case.number place.short
-    → ◌≡◌ {A = Place} (record { at = case.next; round = 0; room = room; short = short }) (case_after case place)
-place_next case place room short h e f = rw (le-ltb 0 case.left h, sym e, sym f) refl
-
-pub short_set : (word n short : ℕ) → word ≡ 116 → n ≡ pick (eqb word 116) n short
-short_set word n short h = rw h refl
-
-pub short_kept : (word n short : ℕ) → (word ≡ 116 → ⊥) → short ≡ pick (eqb word 116) n short
-short_kept word n short h = rw (ne_eqb word 116 h) refl
+use Rattle.cases.specs.Lent.{lent_length, case_outcome}
 
 -- what comes out with the parts behind that were not lent
 module _ (b u l k c d e f out : List ℕ) where
@@ -59,8 +27,8 @@ module _ (b u l k c d e f out : List ℕ) where
 
   put_behind : (reply : Reply) (T : Tables) (o : List ℕ) → outcome reply (held (T.bytes ++ b) (T.used ++ u) (T.label ++ l) (T.link ++ k) (T.s0 ++ c) (T.s1 ++ d) (T.s2 ++ e) (T.s3 ++ f)) (o ++ out) ≡ behind (outcome reply T o)
   unfolding behind
-  put_behind (Done x y) T o = refl
-  put_behind (Refused w) T o = refl
+  put_behind (Ok n) T o = refl
+  put_behind (Err w) T o = refl
 
 pub lend_made : (case : Case) (place : Place) (given b u l k c d e f out : List ℕ) (n0 n1 n2 n3 n4 n5 n6 n7 : ℕ) (order : Order) (reply : Reply) (S : Tables) (o : List ℕ)
     → n0 ≡ lent_length place.short 0 (length b) → n1 ≡ lent_length place.short 1 (length u) → n2 ≡ lent_length place.short 2 (length l) → n3 ≡ lent_length place.short 3 (length k)

@@ -24,6 +24,7 @@ use std::io;
 use std::io::Write;
 
 // The line, how many calls of its case are done, the length of the answer buffer, and the table that is lent too short.
+// A number, and no Option: a case gives it, and each from 8 on is no table's.
 #[derive(Clone, Copy)]
 struct Place {
     at: usize,
@@ -32,25 +33,15 @@ struct Place {
     short: usize,
 }
 
-fn start() -> Place
-    ensures { (result.at ≡ 0) × (result.round ≡ 0) × (result.room ≡ answer_room) × (result.short ≡ 8) }
-{
-    Place {
-        at: 0,
-        round: 0,
-        room: ANSWER,
-        short: 8,
-    }
-}
-
 // The length of a table, or one less if it is the one that is too short.
 fn cut(n: usize, table: usize, short: usize) -> usize
     ensures { (result ≡ lent_length short table n) × (result ≤ n) }
 {
-    if table != short {
-        return n;
+    if table == short {
+        n.saturating_sub(1)
+    } else {
+        n
     }
-    if n == 0 { 0 } else { n - 1 }
 }
 
 // One call of a case, on tables of which one may be lent too short.
@@ -76,10 +67,7 @@ fn lend(
         (held bytes.old used.old label.old link.old
         s0.old s1.old s2.old s3.old) out.old }
 {
-    let n = case.length;
-    let room = place.room;
     let short = place.short;
-    let term = &given[..];
     let l0 = cut(bytes.len(), 0, short);
     let l1 = cut(used.len(), 1, short);
     let l2 = cut(label.len(), 2, short);
@@ -90,7 +78,7 @@ fn lend(
     let l7 = cut(s3.len(), 7, short);
     call(
         order_of(case),
-        &term[..n],
+        &given[..case.length],
         &mut bytes[..l0],
         &mut used[..l1],
         &mut label[..l2],
@@ -99,16 +87,8 @@ fn lend(
         &mut s1[..l5],
         &mut s2[..l6],
         &mut s3[..l7],
-        &mut out[..room],
+        &mut out[..place.room],
     )
-}
-
-// Writes the first n bytes of a line to standard output.
-fn show<W: Write>(output: &mut W, line: &[u8], n: usize) -> io::Result<()> {
-    if n <= line.len() {
-        output.write_all(&line[..n])?;
-    }
-    Ok(())
 }
 
 // Writes a case's line after its last call.
@@ -125,11 +105,9 @@ fn finish<W: Write>(
     if 0 < case.left {
         return Ok(());
     }
-    let n = case.length;
-    let term = &given[..];
     let mut line = [0u8; 4096];
-    let said = say(case, reply, head, &term[..n], out, &mut line);
-    show(output, &line, said)
+    let n = say(case, reply, head, &given[..case.length], out, &mut line);
+    output.write_all(&line[..n])
 }
 
 // The room that a case sets, as far as there is any.
@@ -137,13 +115,10 @@ fn room_after(case: Case, room: usize) -> usize
     requires { room ≤ answer_room }
     ensures { (result ≡ room_after case room) × (result ≤ answer_room) }
 {
-    if case.word != b'b' {
-        return room;
-    }
-    if ANSWER < case.number {
-        ANSWER
+    if case.word == b'b' {
+        case.number.min(ANSWER)
     } else {
-        case.number
+        room
     }
 }
 
@@ -155,10 +130,8 @@ fn place_after(case: Case, place: Place) -> Place
 {
     if 0 < case.left {
         return Place {
-            at: place.at,
             round: place.round + 1,
-            room: place.room,
-            short: place.short,
+            ..place
         };
     }
     Place {
@@ -173,7 +146,7 @@ fn place_after(case: Case, place: Place) -> Place
     }
 }
 
-// Runs case after case.
+// Runs case after case. A while: the next place comes from the text.
 fn main(rt: HostRuntime) -> io::Result<()> {
     let mut input = [0u8; 65536];
     let mut given = [0u8; 512];
@@ -187,11 +160,14 @@ fn main(rt: HostRuntime) -> io::Result<()> {
     let mut s3 = [0u64; SETS];
     let mut out = [0u8; ANSWER];
     let n = read_full(&mut rt.stdin(), &mut input)?;
-    let mut place = start();
+    let mut place = Place {
+        at: 0,
+        round: 0,
+        room: ANSWER,
+        short: 8,
+    };
     while place.at < n {
-        let at = place.at;
-        let case = case_at(&input[..n], at, place.round, &mut given);
-        let shown = case.shown;
+        let case = case_at(&input[..n], place.at, place.round, &mut given);
         let reply = lend(
             case, place, &given, &mut bytes, &mut used, &mut label, &mut link, &mut s0, &mut s1,
             &mut s2, &mut s3, &mut out,
@@ -200,7 +176,7 @@ fn main(rt: HostRuntime) -> io::Result<()> {
             &mut rt.stdout(),
             case,
             reply,
-            &input[at..shown],
+            &input[place.at..case.shown],
             &given,
             &out,
         )?;

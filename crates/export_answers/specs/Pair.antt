@@ -1,21 +1,19 @@
 -- Serves SCOPE.md, 'The relations themselves' and 'Numbers of refusal': what the exported question about one pair
 -- answers and writes.
-use Rattle.std.specs.Prelude.{ℕ, ◌≡◌, ◌≢◌}
+use Rattle.std.specs.Prelude.{ℕ, ◌≡◌, ◌≢◌, Bool, true, false, Result, Ok, Err}
+use Rattle.refusals.specs.declared.Refusal.{Refusal}
 use Rattle.refusals.specs.Refusals.{number_of}
-use Rattle.pairs.specs.declared.Paired.{Paired}
-use Rattle.pairs.specs.declared.Paired.TheVariants.{Unifiable, Apart, Refused}
 
 -- 0, or the number of the refusal
-abbrev pub paired_number : Paired → ℕ
-paired_number Unifiable = 0
-paired_number Apart = 0
-paired_number (Refused why) = number_of why
+abbrev pub paired_number : Result Bool Refusal → ℕ
+paired_number (Ok unifiable) = 0
+paired_number (Err why) = number_of why
 
 -- 1 or 0; what was there before, where it is refused
-abbrev pub paired_answer : Paired → ℕ → ℕ
-paired_answer Unifiable was = 1
-paired_answer Apart was = 0
-paired_answer (Refused why) was = was
+abbrev pub paired_answer : Result Bool Refusal → ℕ → ℕ
+paired_answer (Ok true) was = 1
+paired_answer (Ok false) was = 0
+paired_answer (Err why) was = was
 
 -- r: the refusal; the answer is 1 where P holds and 0 where it does not, and stays as it was where r is a refusal
 pub record Told (r was is : ℕ) (P : Type 0) : Type 0 where

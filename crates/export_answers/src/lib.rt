@@ -6,7 +6,7 @@ ghost use Rattle.export_answers.specs.Pair.{paired_number, paired_answer};
 ghost use Rattle.export_answers.specs.Replies.{reply_number, first_told, second_of};
 
 use calls::Reply;
-use pairs::Paired;
+use refusals::Refusal;
 
 // A refusal's number as C has it.
 pub fn code(number: u8) -> u32
@@ -15,19 +15,15 @@ pub fn code(number: u8) -> u32
     number as u32
 }
 
-pub fn paired(answer: Paired, told: &mut usize) -> u32
+pub fn paired(answer: Result<bool, Refusal>, told: &mut usize) -> u32
     ensures { (result ≡ paired_number answer) × (told.new ≡ paired_answer answer told.old) }
 {
     match answer {
-        Paired::Unifiable => {
-            *told = 1;
+        Ok(unifiable) => {
+            *told = unifiable as usize;
             0
         }
-        Paired::Apart => {
-            *told = 0;
-            0
-        }
-        Paired::Refused(why) => code(why.number()),
+        Err(why) => code(why.number()),
     }
 }
 
@@ -36,8 +32,8 @@ pub fn number_of(reply: Reply) -> u32
     ensures { result ≡ reply_number reply }
 {
     match reply {
-        Reply::Done(_, _) => 0,
-        Reply::Refused(why) => code(why.number()),
+        Ok(_) => 0,
+        Err(why) => code(why.number()),
     }
 }
 
@@ -45,13 +41,10 @@ pub fn number_of(reply: Reply) -> u32
 pub fn tell_first(reply: Reply, told: &mut usize) -> u32
     ensures { (result ≡ reply_number reply) × (told.new ≡ first_told reply told.old) }
 {
-    match reply {
-        Reply::Done(first, _) => {
-            *told = first;
-            0
-        }
-        Reply::Refused(why) => code(why.number()),
+    if let Ok(numbers) = reply {
+        *told = numbers.first;
     }
+    number_of(reply)
 }
 
 // Of a call that tells both numbers.
@@ -60,12 +53,9 @@ pub fn tell_both(reply: Reply, one: &mut usize, two: &mut usize) -> u32
         × (one.new ≡ first_told reply one.old)
         × (two.new ≡ second_of reply two.old) }
 {
-    match reply {
-        Reply::Done(first, second) => {
-            *one = first;
-            *two = second;
-            0
-        }
-        Reply::Refused(why) => code(why.number()),
+    if let Ok(numbers) = reply {
+        *one = numbers.first;
+        *two = numbers.second;
     }
+    number_of(reply)
 }

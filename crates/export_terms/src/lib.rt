@@ -10,13 +10,14 @@ ghost use Rattle.export_terms.specs.Arguments.{start_after, length_after};
 ghost use Rattle.export_answers.specs.Pair.{Told};
 
 use export_answers::{code, paired};
+use refusals::checked_number;
 
 // Refusal 2 or none.
 #[unsafe(no_mangle)]
 pub extern "C" fn azunkefogo_check_signature(sig: &[u8]) -> u32
     ensures { result ≡ sig_refusal sig.now }
 {
-    code(terms::check_signature(sig).number())
+    code(checked_number(terms::check_signature(sig)))
 }
 
 // Refusals 5 to 8 or none.
@@ -24,7 +25,7 @@ pub extern "C" fn azunkefogo_check_signature(sig: &[u8]) -> u32
 pub extern "C" fn azunkefogo_check_term(sig: &[u8], term: &[u8]) -> u32
     ensures { result ≡ refusal sig.now term.now }
 {
-    code(checking::check(sig, term).number())
+    code(checked_number(checking::check(sig, term)))
 }
 
 // Refusals 5 to 8 and 10 or none: where argument i of a term starts within it, and how long it is.

@@ -6,10 +6,11 @@ use native.Mathlib.Omega.{arith}
 use native.Mathlib.Nat.{add-zero}
 use native.Mathlib.Numerals.{add-one}
 use native.Mathlib.Decide.{dec_le, dec_lt}
-use lib.ListN.{length, set, get_or, take, drop, length-append}
-use lib.Seq.{sets, length-sets, set_out, take-suc}
+use lib.ListN.{length, set, get_or, take, drop, length-append, drop_of_length-le}
+use lib.Seq.{sets, sets-eq, length-sets, length-take-le, set_out, take-suc}
 use borrow.Author.Tests.{lt-ltb, le-ltb}
-use Rattle.laws.proofs.Lists.{tail_part}
+use borrow.Rule.Slice.PartMut.{put_mid}
+use Rattle.std.proofs.lemmas.List.{drop-drop, take-append-drop}
 use Rattle.lines.specs.Lines.{Put, digits, decimal, hex, slot_list, figure, record_text}
 
 -- nothing changes past the end
@@ -55,9 +56,24 @@ put_then {l} {m} {n} {at} {r} {s} {a} {b} p q = go (dec_le (at + length a) (leng
         let f : length (sets l at a) ≤ at + length a = omega (arith, length-sets l at a) in
         record { line_is = q.line_is ∙ (sets_out b m r e ∙ (p.line_is ∙ (sym (sets_out b (sets l at a) (at + length a) f) ∙ sym (sets_append a b l at)))); next_is = last }
 
--- a turn of a loop that puts one byte after another, and the whole
-pub bytes_turn : {l m n : List ℕ} {at r s : ℕ} (t : List ℕ) (i : ℕ) → i < length t → Put l m at (take i t) r → Put m n r (get_or t i 0 ∷ []) s → Put l n at (take (i + 1) t) s
-bytes_turn t i h p q = rw (add-one, take-suc t i 0 h) (put_then p q)
+-- as much of a text as there is room for, copied over a part of the line
+pub put_part : (l t xs : List ℕ) (at n k : ℕ) → at ≤ length l → n ≡ min (length t) (length l - at) → k ≡ n → xs ≡ take n t → Put l (put_mid at k l xs) at t (at + n)
+put_part l t xs at n k h e f g = record { line_is = copied ∙ sym all; next_is = omega (arith, e) }
+  where
+    few : length (take n t) ≡ n
+    few = length-take-le n t (omega (arith, e))
+
+    copied : put_mid at k l xs ≡ sets l at (take n t)
+    copied =
+        let d : drop k (drop at l) ≡ drop (at + length (take n t)) l = rw (f, few) (drop-drop n at l) in
+        rw (g, d) (sym (append_assoc (take at l) (take n t) _)) ∙ sym (sets-eq (take n t) l at (omega (arith, few, e)))
+
+    rest : Dec (length t ≤ n) → sets (sets l at (take n t)) (at + length (take n t)) (drop n t) ≡ sets l at (take n t)
+    rest (yes z) = let d : drop n t ≡ [] = drop_of_length-le t {i = n} z in rw d
+    rest (no z) = sets_out (drop n t) (sets l at (take n t)) (at + length (take n t)) (omega (arith, few, e, length-sets l at (take n t)))
+
+    all : sets l at t ≡ sets l at (take n t)
+    all = ap (sets l at) (sym (take-append-drop n t)) ∙ sets_append (take n t) (drop n t) l at ∙ rest (dec_le (length t) n)
 
 -- the hex of two texts, one after another
 hex_append : (a b : List ℕ) → hex (a ++ b) ≡ hex a ++ hex b
@@ -95,11 +111,12 @@ put_after a b k {d} p q =
     rw e at (put_then p q)
 
 -- the first slot of a listing, and a listing with none
-slots_first : (l : List ℕ) → 2 ≤ length l → slot_list l ≡ figure (get_or l 0 0 * 256 + get_or l 1 0) ++ slot_list (drop 2 l)
+slots_first : (p l : List ℕ) → length p ≡ 2 → slot_list (p ++ l) ≡ figure (get_or p 0 0 * 256 + get_or p 1 0) ++ slot_list l
 unfolding slot_list
-slots_first [] h = absurd (omega arith)
-slots_first (x ∷ []) h = absurd (omega arith)
-slots_first (x ∷ y ∷ l) h = refl
+slots_first [] l h = absurd (omega arith)
+slots_first (x ∷ []) l h = absurd (omega arith)
+slots_first (x ∷ y ∷ []) l h = refl
+slots_first (x ∷ y ∷ z ∷ p) l h = absurd (omega arith)
 
 slots_none : (l : List ℕ) → length l < 2 → slot_list l ≡ []
 unfolding slot_list
@@ -113,31 +130,31 @@ pub record Listing (line₀ line : List ℕ) (at next : ℕ) (all rest : List �
   pub all_is : slot_list all ≡ done ++ slot_list rest
   pub put : Put line₀ line at done next
 
-pub listing_start : (l : List ℕ) (at : ℕ) (t : List ℕ) → at ≤ length l → Listing l l at at t t
-listing_start l at t h = record { done = []; all_is = refl; put = put_none l at h }
+pub listing_start : (l t rest : List ℕ) (at : ℕ) → at ≤ length l → rest ≡ t → Listing l l at at t rest
+listing_start l t rest at h e = record { done = []; all_is = ap slot_list (sym e); put = put_none l at h }
 
-pub listing_turn : {l m n : List ℕ} {at r s : ℕ} {t rest : List ℕ} (x : ℕ) → 2 ≤ length rest → Listing l m at r t rest → x ≡ get_or rest 0 0 * 256 + get_or rest 1 0 → Put m n r (figure x) s → Listing l n at s t (take (length rest - 2) (drop 2 rest))
-listing_turn {rest = rest} x h g e p =
-    let f : slot_list rest ≡ figure x ++ slot_list (drop 2 rest) = rw e (slots_first rest h) in
-    rw tail_part
-    (record {
+pub listing_turn : {l m n : List ℕ} {at r s : ℕ} {t rest : List ℕ} (p left : List ℕ) → length p ≡ 2 → rest ≡ p ++ left → Listing l m at r t rest → Put m n r (figure (get_or p 0 0 * 256 + get_or p 1 0)) s → Listing l n at s t left
+listing_turn {rest = rest} p left h e g q =
+    let x = get_or p 0 0 * 256 + get_or p 1 0 in
+    let f : slot_list rest ≡ figure x ++ slot_list left = rw e (slots_first p left h) in
+    record {
       done = g.done ++ figure x;
-      all_is = g.all_is ∙ (rw f (sym (append_assoc g.done (figure x) (slot_list (drop 2 rest)))));
-      put = put_then g.put p;
-    })
+      all_is = g.all_is ∙ (rw f (sym (append_assoc g.done (figure x) (slot_list left))));
+      put = put_then g.put q;
+    }
 
 pub listing_end : {l m : List ℕ} {at r : ℕ} {t rest : List ℕ} → length rest < 2 → Listing l m at r t rest → Put l m at (slot_list t) r
 listing_end {rest = rest} h g =
     let e : slot_list _ ≡ g.done = g.all_is ∙ (rw (slots_none rest h) (append-nil g.done)) in
     rw e g.put
 
--- the bytes of a record
-pub record_none : (t : List ℕ) → length t ≡ 0 → record_text t ≡ []
+-- a record that has no bytes, and one that has
+pub record_none : (l t : List ℕ) (at : ℕ) → at ≤ length l → length t ≡ 0 → Put l l at (record_text t) at
 unfolding record_text
-record_none [] h = refl
-record_none (x ∷ t) h = absurd (omega arith)
+record_none l [] at b h = put_none l at b
+record_none l (x ∷ t) at b h = absurd (omega arith)
 
-pub record_some : (t : List ℕ) → (length t ≡ 0 → ⊥) → record_text t ≡ 32 ∷ hex t
+pub record_some : (l m n t : List ℕ) (at r s : ℕ) → 0 < length t → Put l m at (32 ∷ []) r → Put m n r (hex t) s → Put l n at (record_text t) s
 unfolding record_text
-record_some [] h = absurd (h refl)
-record_some (x ∷ t) h = refl
+record_some l m n [] at r s h p q = absurd (omega arith)
+record_some l m n (x ∷ t) at r s h p q = put_then p q

@@ -4,7 +4,6 @@ ghost use Rattle.lines.specs.Lines.{Put, ok, figure, feed, record_text};
 ghost use Rattle.lines.specs.Lines.{plain_line, refused_line, slot_line, found_line, solved_line};
 
 use crate::put::{put_byte, put_bytes, put_figure, put_hex, put_slots};
-use laws::wide;
 
 // `open ok`
 pub fn plain_line(line: &mut [u8], word: &[u8]) -> usize
@@ -20,7 +19,7 @@ pub fn refused_line(line: &mut [u8], word: &[u8], number: u8) -> usize
 {
     let a = put_bytes(line, 0, word);
     let b = put_bytes(line, a, b" no");
-    let c = put_figure(line, b, wide(number));
+    let c = put_figure(line, b, number as usize);
     put_byte(line, c, b'\n')
 }
 
@@ -63,7 +62,7 @@ fn put_record(line: &mut [u8], at: usize, bytes: &[u8]) -> usize
     requires { at ≤ length line.old }
     ensures { Put line.old line.new at (record_text bytes.now) result }
 {
-    if bytes.len() == 0 {
+    if bytes.is_empty() {
         return at;
     }
     let next = put_byte(line, at, b' ');

@@ -1,8 +1,9 @@
-// Pieces of a line, each written at a place as far as there is room; each answers the next place.
+// Pieces of a line, each written at a place as far as there is room; each answers the next place. By hand, since what
+// `fmt` writes no contract tells.
 ghost use Rattle.std.specs.Prelude.{◌≡◌, [], ◌∷◌, ◌≤◌, ◌<◌, length};
 ghost use Rattle.lines.specs.Lines.{Put, decimal, glyph as glyph_of, hex, slot_list, figure};
 
-use laws::{low, wide};
+use laws::number_at;
 
 pub fn put_byte(line: &mut [u8], at: usize, b: u8) -> usize
     requires { at ≤ length line.old }
@@ -19,13 +20,10 @@ pub fn put_bytes(line: &mut [u8], at: usize, text: &[u8]) -> usize
     requires { at ≤ length line.old }
     ensures { Put line.old line.new at text.now result }
 {
-    let mut next = at;
-    let mut i: usize = 0;
-    while i < text.len() {
-        next = put_byte(line, next, text[i]);
-        i += 1;
-    }
-    next
+    let n = text.len().min(line.len() - at);
+    let end = at + n;
+    line[at..end].copy_from_slice(&text[..n]);
+    end
 }
 
 // A number in decimal.
@@ -33,7 +31,7 @@ pub fn put_decimal(line: &mut [u8], at: usize, n: usize) -> usize
     requires { at ≤ length line.old }
     ensures { Put line.old line.new at (decimal n) result }
 {
-    let digit = low(48 + n % 10);
+    let digit = b'0' + (n % 10) as u8;
     if n < 10 {
         return put_byte(line, at, digit);
     }
@@ -51,20 +49,19 @@ pub fn put_figure(line: &mut [u8], at: usize, n: usize) -> usize
 }
 
 // A hex digit in lower case.
-fn glyph(d: usize) -> u8
+fn glyph(d: u8) -> u8
     requires { d < 16 }
     ensures { result ≡ glyph_of d }
 {
-    if d < 10 { low(48 + d) } else { low(87 + d) }
+    if d < 10 { b'0' + d } else { b'a' + (d - 10) }
 }
 
 fn put_hex_byte(line: &mut [u8], at: usize, b: u8) -> usize
     requires { at ≤ length line.old }
     ensures { Put line.old line.new at (hex (b ∷ [])) result }
 {
-    let x = wide(b);
-    let next = put_byte(line, at, glyph(x / 16));
-    put_byte(line, next, glyph(x % 16))
+    let next = put_byte(line, at, glyph(b / 16));
+    put_byte(line, next, glyph(b % 16))
 }
 
 // Two hex digits for each byte.
@@ -73,10 +70,8 @@ pub fn put_hex(line: &mut [u8], at: usize, bytes: &[u8]) -> usize
     ensures { Put line.old line.new at (hex bytes.now) result }
 {
     let mut next = at;
-    let mut i: usize = 0;
-    while i < bytes.len() {
-        next = put_hex_byte(line, next, bytes[i]);
-        i += 1;
+    for byte in bytes {
+        next = put_hex_byte(line, next, *byte);
     }
     next
 }
@@ -87,11 +82,8 @@ pub fn put_slots(line: &mut [u8], at: usize, listing: &[u8]) -> usize
     ensures { Put line.old line.new at (slot_list listing.now) result }
 {
     let mut next = at;
-    let mut rest = listing;
-    while 2 <= rest.len() {
-        let slot = wide(rest[0]) * 256 + wide(rest[1]);
-        next = put_figure(line, next, slot);
-        rest = &rest[2..];
+    for pair in listing.chunks_exact(2) {
+        next = put_figure(line, next, number_at(pair, 0));
     }
     next
 }

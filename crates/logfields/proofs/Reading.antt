@@ -5,8 +5,9 @@ use mathlib.Core.List.{List, [], ◌∷◌}
 use native.Mathlib.Omega.{arith}
 use lib.ListN.{length}
 use Rattle.logfields.specs.Fields.{field_at}
-use Rattle.logfields.specs.Reading.{past, place_after, field_before, fields_within, fields_from, field_or, place_of}
+use Rattle.logfields.specs.Reading.{past, place_after, taken_at, field_before, fields_within, fields_from, field_or, place_of}
 use Rattle.logfields.specs.declared.field.Field.{Field}
+use Rattle.logfields.specs.declared.reader.Taken.{Taken}
 use Rattle.logfields.specs.declared.field.Field.TheVariants.{End, Cut, Whole}
 use Rattle.logfields.proofs.Fields.{field_end, field_inside}
 
@@ -64,3 +65,22 @@ taken_in_order zero s at = ap (λ l. field_or l 0) (next_first s at) ∙ first_i
 taken_in_order (suc i) s at =
     ap (λ l. field_or l (suc i)) (next_first s at)
     ∙ later_is i s (field_at s at) (fields_from s (place_after s at)) (taken_in_order i s (place_after s at))
+
+-- what a reader gives next: nothing at the end, and else the first field of those that are left
+pub next_none : (s : List ℕ) (at : ℕ) (t : Taken) → t ≡ taken_at s at → t.field ≡ End → (fields_from s at ≡ []) × (fields_from s t.place ≡ [])
+unfolding fields_from field_before
+next_none s at t e g =
+    let f : field_at s at ≡ End = sym (ap (λ x. x.field) e) ∙ g in
+    let p : t.place ≡ length s = ap (λ x. x.place) e ∙ ap (λ x. past x (length s)) f in
+    (next_first s at ∙ ap (λ x. field_before x (fields_from s (place_after s at))) f, within_done (length s - t.place) s t.place (omega (arith, p)))
+
+before_some : (f : Field) (fs : List Field) → (f ≡ End → ⊥) → field_before f fs ≡ f ∷ fs
+unfolding field_before
+before_some End fs h = absurd (h refl)
+before_some Cut fs h = refl
+before_some (Whole tag start n) fs h = refl
+
+pub next_some : (s : List ℕ) (at : ℕ) (t : Taken) → t ≡ taken_at s at → (t.field ≡ End → ⊥) → fields_from s at ≡ t.field ∷ fields_from s t.place
+next_some s at t e g =
+    let f = ap (λ x. x.field) e in let p = ap (λ x. x.place) e in
+    rw (f, p) (next_first s at ∙ before_some (field_at s at) (fields_from s (place_after s at)) (λ z. g (f ∙ z)))

@@ -2,10 +2,9 @@
 ghost use Rattle.std.specs.Prelude.{◌≡◌};
 ghost use Rattle.logfields.specs.Fields.{field_at};
 
-use laws::wide;
-
 // What stands at a place: nothing more, a cut field, or a whole one, whose payload is `length` bytes from `start` on.
-#[derive(Clone, Copy)]
+// An enum of its own: these are three ways, and a cut field is no failure of the reading.
+#[derive(Debug, Clone, Copy, PartialEq, Eq)]
 pub enum Field {
     End,
     Cut,
@@ -27,13 +26,13 @@ pub fn field_at(input: &[u8], at: usize) -> Field
     if left < 3 {
         return Field::Cut;
     }
-    let n = wide(input[at + 1]) * 256 + wide(input[at + 2]);
-    if left - 3 < n {
+    let length = u16::from_be_bytes([input[at + 1], input[at + 2]]) as usize;
+    if left - 3 < length {
         return Field::Cut;
     }
     Field::Whole {
         tag: input[at],
         start: at + 3,
-        length: n,
+        length,
     }
 }

@@ -1,18 +1,19 @@
 // A reader of a log: the log's slice and the place of its next field (SCOPE.md, 'The log program').
 // Each function over the struct is thin; `take_at` does the work.
 ghost use Rattle.std.specs.Prelude.{◌≡◌, ◌<◌, ◌^◌, length, leb};
-ghost use Rattle.logfields.specs.Reading.{past, taken_at};
+ghost use Rattle.std.specs.Iterator.{YieldsFirst, item_count};
+ghost use Rattle.logfields.specs.Reading.{past, taken_at, fields_from};
 
 use crate::field::{Field, field_at};
 
-#[derive(Clone, Copy)]
+#[derive(Debug, Clone, Copy, PartialEq, Eq)]
 pub struct Reader<'a> {
     pub log: &'a [u8],
     pub at: usize,
 }
 
 // What a reader has taken: a field, and the place of the next one.
-#[derive(Clone, Copy)]
+#[derive(Debug, Clone, Copy, PartialEq, Eq)]
 pub struct Taken {
     pub field: Field,
     pub place: usize,
@@ -24,13 +25,8 @@ fn place_after(field: Field, end: usize) -> usize
     ensures { result ≡ past field end }
 {
     match field {
-        Field::End => end,
-        Field::Cut => end,
-        Field::Whole {
-            tag: _,
-            start,
-            length,
-        } => start + length,
+        Field::End | Field::Cut => end,
+        Field::Whole { start, length, .. } => start + length,
     }
 }
 
@@ -40,10 +36,7 @@ pub fn take_at(log: &[u8], at: usize) -> Taken
 {
     let field = field_at(log, at);
     let place = place_after(field, log.len());
-    Taken {
-        field: field,
-        place: place,
-    }
+    Taken { field, place }
 }
 
 impl<'a> Reader<'a> {
@@ -80,6 +73,24 @@ impl<'a> Reader<'a> {
         ensures { result ≡ taken_at self.entry.log.now self.entry.at }
     {
         take_at(self.log, self.at)
+    }
+}
+
+// The fields that are left, one after another, up to the first cut one.
+impl<'a> Iterator for Reader<'a> {
+    type Item = Field;
+
+    ghost next_gives = { YieldsFirst (λ s. fields_from s.log.now s.at) };
+
+    ghost remaining = { item_count (λ s. fields_from s.log.now s.at) };
+
+    fn next(&mut self) -> Option<Field> {
+        let Taken { field, place } = take_at(self.log, self.at);
+        self.at = place;
+        match field {
+            Field::End => None,
+            _ => Some(field),
+        }
     }
 }
 

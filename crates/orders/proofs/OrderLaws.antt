@@ -4,16 +4,14 @@ use mathlib.Core.Path.{◌≡◌, refl, sym, ap, ◌∙◌}
 use mathlib.Core.Bool.{Bool, true, false}
 use mathlib.Core.List.{List, []}
 use lib.Dec.{ltb, eqb}
-use lib.Seq.{sets}
 use Rattle.laws.specs.Choice.{pick}
 use Rattle.refusals.specs.declared.Refusal.TheVariants as Refusal
 use Rattle.terms.specs.Terms.{sig_refusal, refusal}
 use Rattle.definitions.specs.Answers.{Answer, refused, refuse, opened, slot, written}
 use Rattle.layout.specs.Layout.{signature_of, is_used}
 use Rattle.layout.specs.Tables.{Tables, ample}
-use Rattle.calls.specs.declared.Reply.{Reply}
-use Rattle.calls.specs.declared.Reply.TheVariants.{Done, Refused}
-use Rattle.calls.specs.Outcome.{Outcome, outcome, Result, guarded, told, refused_told}
+use Rattle.std.specs.Prelude.{Ok, Err}
+use Rattle.calls.specs.Outcome.{Reply, Outcome, outcome, Result, guarded, told, refused_told}
 use Rattle.store.specs.Calls.{opening, inserting, insert_answer, deleting}
 use Rattle.store.specs.Tables.{ups_of, ends_of, room_for, free_slot}
 use Rattle.calls.specs.declared.Order.{Order}
@@ -26,7 +24,7 @@ pub asked_told : (o o' : Order) (T : Tables) (t : List ℕ) (room : ℕ) (out : 
 asked_told o o' T t room out x e f = f ∙ ap (λ z. told out (asked z T t room)) (sym e)
 
 pub log_told : (o : Order) (T : Tables) (t : List ℕ) (room : ℕ) (out : List ℕ) → (o ≡ WithKey → ⊥) → ((r : ℕ) → o ≡ Retrieve r → ⊥) → ((s : ℕ) → o ≡ Solve s → ⊥)
-    → outcome (Refused Refusal.Log) T out ≡ told out (asked o T t room)
+    → outcome (Err Refusal.Log) T out ≡ told out (asked o T t room)
 log_told Open T t room out k r s = refused_told Refusal.Log T T out (refuse Refusal.Log) refl
 log_told Insert T t room out k r s = refused_told Refusal.Log T T out (refuse Refusal.Log) refl
 log_told (Delete n) T t room out k r s = refused_told Refusal.Log T T out (refuse Refusal.Log) refl
@@ -48,24 +46,8 @@ unchanging_told (Delete s) T t room out x p i d e = absurd (d s refl)
 
 -- a call that writes nothing says so of every buffer
 quiet : (r : Reply) (S : Tables) (out : List ℕ) (R : Result) → written R.answer ≡ [] → outcome r S [] ≡ told [] R → outcome r S out ≡ told out R
-quiet (Done a b) S out R w e =
-    let g : out ≡ sets out 0 (written R.answer) = ap (λ z. sets out 0 z) (sym w) in
-    λ i. record {
-      refused = ap (λ (o : Outcome). o.refused) e i;
-      first = ap (λ (o : Outcome). o.first) e i;
-      second = ap (λ (o : Outcome). o.second) e i;
-      after = ap (λ (o : Outcome). o.after) e i;
-      out = g i;
-    }
-quiet (Refused v) S out R w e =
-    let g : out ≡ sets out 0 (written R.answer) = ap (λ z. sets out 0 z) (sym w) in
-    λ i. record {
-      refused = ap (λ (o : Outcome). o.refused) e i;
-      first = ap (λ (o : Outcome). o.first) e i;
-      second = ap (λ (o : Outcome). o.second) e i;
-      after = ap (λ (o : Outcome). o.after) e i;
-      out = g i;
-    }
+quiet (Ok n) S out R w e = rw w (ap (λ (o : Outcome). record o { out = out }) e)
+quiet (Err v) S out R w e = rw w (ap (λ (o : Outcome). record o { out = out }) e)
 
 either : (b : Bool) (x y : Answer) → written x ≡ [] → written y ≡ [] → written (pick b x y) ≡ []
 either true x y f g = f

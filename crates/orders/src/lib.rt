@@ -40,7 +40,7 @@ fn ask(
         Order::Solve(slot) => solving::solve(
             bytes, used, label, link, s0, s1, s2, s3, slot, term, out,
         ),
-        _ => Reply::Refused(Refusal::Log),
+        _ => Err(Refusal::Log),
     }
 }
 

@@ -12,10 +12,7 @@ pub fn read_full<R: Read>(input: &mut R, buf: &mut [u8]) -> io::Result<usize>
     ensures len { length buf.new ≡ length buf.old }
 {
     let mut done: usize = 0;
-    for _ in 0..u64::MAX {
-        if done == buf.len() {
-            break;
-        }
+    while done < buf.len() {
         let n = input.read(&mut buf[done..])?;
         if n == 0 {
             break;

@@ -8,17 +8,8 @@ use std::io;
 use std::io::Write;
 use turns::turn;
 
-// Writes the first n bytes of a line to standard output.
-fn show<W: Write>(output: &mut W, line: &[u8; LINE], n: usize) -> io::Result<()> {
-    let whole = &line[..];
-    if n <= whole.len() {
-        output.write_all(&whole[..n])?;
-    }
-    Ok(())
-}
-
 // Takes field after field, the first from the start of the input. One byte more than the limit tells that an input is
-// too long.
+// too long. A while: the next place comes from the field.
 fn main(rt: HostRuntime) -> io::Result<()> {
     let mut input = [0u8; INPUT + 1];
     let mut bytes = [0u8; BYTES];
@@ -48,7 +39,7 @@ fn main(rt: HostRuntime) -> io::Result<()> {
             &mut out,
             &mut line,
         );
-        show(&mut rt.stdout(), &line, done.length)?;
+        rt.stdout().write_all(&line[..done.length])?;
         at = done.next;
     }
     Ok(())

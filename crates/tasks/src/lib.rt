@@ -9,8 +9,8 @@ ghost use Rattle.tasks.specs.Operations.{solve_operation, payload};
 ghost use Rattle.tasks.specs.Ordered.{fixed_part, InLog, operation_of, Ordered, operation_at, place_past};
 
 use calls::Order;
-use laws::{INPUT, number_at, wide};
-use logfields::Field;
+use laws::{INPUT, number_at};
+use logfields::{Field, Taken};
 
 // An order, where the rest of its payload starts and ends, which is where the next field starts.
 #[derive(Clone, Copy)]
@@ -35,7 +35,7 @@ fn retrieve_order(payload: &[u8]) -> Order
     ensures { Ordered result payload.now (retrieve_operation payload.now) }
 {
     if 1 <= payload.len() {
-        return Order::Retrieve(wide(payload[0]));
+        return Order::Retrieve(payload[0] as usize);
     }
     Order::Nothing
 }
@@ -51,6 +51,7 @@ fn solve_order(payload: &[u8]) -> Order
 }
 
 // A field after the first, which is no signature.
+#[tactic(auto, unfolding(crate::specs::Operations::later_operation))]
 fn later_order(tag: u8, payload: &[u8]) -> Order
     ensures { Ordered result payload.now (later_operation tag payload.now) }
 {
@@ -64,17 +65,16 @@ fn later_order(tag: u8, payload: &[u8]) -> Order
 }
 
 // The first field is a signature, and no other is.
+#[tactic(auto, unfolding(crate::specs::Operations::first_operation))]
 fn order_of(first: bool, tag: u8, payload: &[u8]) -> Order
     ensures { Ordered result payload.now
         (pick first (first_operation tag payload.now) (later_operation tag payload.now)) }
 {
-    if !first {
-        return later_order(tag, payload);
+    match (first, tag) {
+        (false, _) => later_order(tag, payload),
+        (true, 1) => Order::Open,
+        (true, _) => Order::Nothing,
     }
-    if tag == 1 {
-        return Order::Open;
-    }
-    Order::Nothing
 }
 
 // The bytes of an order's fixed part.
@@ -82,17 +82,14 @@ fn fixed(order: Order) -> usize
     ensures { result ≡ fixed_part order }
 {
     match order {
-        Order::Delete(_) => 2,
+        Order::Delete(_) | Order::Solve(_) => 2,
         Order::Retrieve(_) => 1,
-        Order::Solve(_) => 2,
-        Order::Open => 0,
-        Order::Insert => 0,
-        Order::WithKey => 0,
-        Order::Nothing => 0,
+        Order::Open | Order::Insert | Order::WithKey | Order::Nothing => 0,
     }
 }
 
 // What stands at a place: a cut field orders nothing, and so does an input of more than 65,535 bytes.
+#[tactic(auto, unfolding(crate::specs::Ordered::operation_at, crate::specs::Ordered::place_past))]
 pub fn task_at(input: &[u8], at: usize) -> Task
     ensures { (result.start ≤ result.end) × (result.end ≤ length input.now)
         × (result.end ≡ place_past input.now at)
@@ -107,25 +104,14 @@ pub fn task_at(input: &[u8], at: usize) -> Task
             end: input.len(),
         };
     }
-    let taken = logfields::read(input, at);
-    let field = taken.field;
-    let end = taken.place;
+    let Taken { field, place: end } = logfields::read(input, at);
     match field {
-        Field::End => Task {
+        Field::End | Field::Cut => Task {
             order: Order::Nothing,
             start: 0,
             end,
         },
-        Field::Cut => Task {
-            order: Order::Nothing,
-            start: 0,
-            end,
-        },
-        Field::Whole {
-            tag,
-            start,
-            length: _,
-        } => {
+        Field::Whole { tag, start, .. } => {
             let order = order_of(at == 0, tag, &input[start..end]);
             Task {
                 order,

@@ -12,9 +12,9 @@ use Rattle.refusals.specs.declared.Refusal.{Refusal}
 use Rattle.refusals.specs.Refusals.{number_of}
 use Rattle.refusals.specs.Numbers.{number_some}
 use Rattle.layout.specs.Tables.{Tables}
-use Rattle.calls.specs.declared.Reply.{Reply}
-use Rattle.calls.specs.declared.Reply.TheVariants.{Done, Refused}
-use Rattle.calls.specs.Outcome.{Outcome, outcome, told}
+use Rattle.std.specs.Prelude.{Ok, Err}
+use Rattle.calls.specs.declared.Numbers.{Numbers}
+use Rattle.calls.specs.Outcome.{Reply, Outcome, outcome, told}
 use Rattle.calls.specs.declared.Order.{Order}
 use Rattle.calls.specs.declared.Order.TheVariants.{Open, Insert, Delete, WithKey, Retrieve, Solve, Nothing}
 use Rattle.orders.specs.Orders.{ordered}
@@ -35,16 +35,16 @@ ordered_is room (Solve s) T t h = refl
 ordered_is room Nothing T t h = refl
 
 module _ (room : ℕ) (t out : List ℕ) (S : Tables) where
-  line_done : (order : Order) (a b : ℕ) → InLog order → (order ≡ Nothing → ⊥) → spoken order (Done a b) out ≡ line_of (operation_of order t) (outcome (Done a b) S out)
-  line_done Open a b h n = refl
-  line_done Insert a b h n = refl
-  line_done (Delete s) a b h n = refl
-  line_done WithKey a b h n = absurd h
-  line_done (Retrieve r) a b h n = refl
-  line_done (Solve s) a b h n = refl
-  line_done Nothing a b h n = absurd (n refl)
+  line_done : (order : Order) (v : Numbers) → InLog order → (order ≡ Nothing → ⊥) → spoken order (Ok v) out ≡ line_of (operation_of order t) (outcome (Ok v) S out)
+  line_done Open v h n = refl
+  line_done Insert v h n = refl
+  line_done (Delete s) v h n = refl
+  line_done WithKey v h n = absurd h
+  line_done (Retrieve r) v h n = refl
+  line_done (Solve s) v h n = refl
+  line_done Nothing v h n = absurd (n refl)
 
-  line_refused : (order : Order) (w : Refusal) → InLog order → spoken order (Refused w) out ≡ line_of (operation_of order t) (outcome (Refused w) S out)
+  line_refused : (order : Order) (w : Refusal) → InLog order → spoken order (Err w) out ≡ line_of (operation_of order t) (outcome (Err w) S out)
   line_refused Open w h = rw (ne_eqb (number_of w) 0 (number_some w))
   line_refused Insert w h = rw (ne_eqb (number_of w) 0 (number_some w))
   line_refused (Delete s) w h = rw (ne_eqb (number_of w) 0 (number_some w))
@@ -53,16 +53,16 @@ module _ (room : ℕ) (t out : List ℕ) (S : Tables) where
   line_refused (Solve s) w h = rw (ne_eqb (number_of w) 0 (number_some w))
   line_refused Nothing w h = refl
 
-  stop_done : (order : Order) (a b : ℕ) → InLog order → (order ≡ Nothing → ⊥) → false ≡ stops_after (operation_of order t) (outcome (Done a b) S out).refused
-  stop_done Open a b h n = refl
-  stop_done Insert a b h n = refl
-  stop_done (Delete s) a b h n = refl
-  stop_done WithKey a b h n = absurd h
-  stop_done (Retrieve r) a b h n = refl
-  stop_done (Solve s) a b h n = refl
-  stop_done Nothing a b h n = absurd (n refl)
+  stop_done : (order : Order) (v : Numbers) → InLog order → (order ≡ Nothing → ⊥) → false ≡ stops_after (operation_of order t) (outcome (Ok v) S out).refused
+  stop_done Open v h n = refl
+  stop_done Insert v h n = refl
+  stop_done (Delete s) v h n = refl
+  stop_done WithKey v h n = absurd h
+  stop_done (Retrieve r) v h n = refl
+  stop_done (Solve s) v h n = refl
+  stop_done Nothing v h n = absurd (n refl)
 
-  stop_refused : (order : Order) (w : Refusal) → InLog order → ending order ≡ stops_after (operation_of order t) (outcome (Refused w) S out).refused
+  stop_refused : (order : Order) (w : Refusal) → InLog order → ending order ≡ stops_after (operation_of order t) (outcome (Err w) S out).refused
   stop_refused Open w h = rw (ne_eqb (number_of w) 0 (number_some w))
   stop_refused Insert w h = refl
   stop_refused (Delete s) w h = refl
@@ -73,23 +73,23 @@ module _ (room : ℕ) (t out : List ℕ) (S : Tables) where
 
   -- what is no order is refused
   module _ (T : Tables) (out₀ : List ℕ) where
-    some_order : (order : Order) (a b : ℕ) → outcome (Done a b) S out ≡ told out₀ (result_of room T (operation_of order t)) → order ≡ Nothing → ⊥
-    some_order order a b e n =
-        let f : outcome (Done a b) S out ≡ told out₀ (result_of room T none) = rw n at e in
+    some_order : (order : Order) (v : Numbers) → outcome (Ok v) S out ≡ told out₀ (result_of room T (operation_of order t)) → order ≡ Nothing → ⊥
+    some_order order v e n =
+        let f : outcome (Ok v) S out ≡ told out₀ (result_of room T none) = rw n at e in
         let z : ◌≡◌ {A = ℕ} 0 16 = ap (λ (o : Outcome). o.refused) f in
         omega arith
 
     line_is : (order : Order) (reply : Reply) → InLog order → outcome reply S out ≡ told out₀ (result_of room T (operation_of order t)) → spoken order reply out ≡ line_of (operation_of order t) (outcome reply S out)
-    line_is order (Done a b) h e = line_done order a b h (some_order order a b e)
-    line_is order (Refused w) h e = line_refused order w h
+    line_is order (Ok v) h e = line_done order v h (some_order order v e)
+    line_is order (Err w) h e = line_refused order w h
 
     stop_is : (order : Order) (reply : Reply) → InLog order → outcome reply S out ≡ told out₀ (result_of room T (operation_of order t)) → stopping order reply ≡ stops_after (operation_of order t) (outcome reply S out).refused
-    stop_is order (Done a b) h e = stop_done order a b h (some_order order a b e)
-    stop_is order (Refused w) h e = stop_refused order w h
+    stop_is order (Ok v) h e = stop_done order v h (some_order order v e)
+    stop_is order (Err w) h e = stop_refused order w h
 
 tables_in : (reply : Reply) (S : Tables) (out : List ℕ) (o : Outcome) → outcome reply S out ≡ o → (S ≡ o.after) × (out ≡ o.out)
-tables_in (Done a b) S out o e = (ap (λ (x : Outcome). x.after) e, ap (λ (x : Outcome). x.out) e)
-tables_in (Refused w) S out o e = (ap (λ (x : Outcome). x.after) e, ap (λ (x : Outcome). x.out) e)
+tables_in (Ok v) S out o e = (ap (λ (x : Outcome). x.after) e, ap (λ (x : Outcome). x.out) e)
+tables_in (Err w) S out o e = (ap (λ (x : Outcome). x.after) e, ap (λ (x : Outcome). x.out) e)
 
 -- A TURN, from the contracts of its four calls
 pub turn_made : (s : List ℕ) (at : ℕ) (T : Tables) (out₀ line₀ : List ℕ) (S : Tables) (out line : List ℕ) (written next : ℕ)

@@ -2,8 +2,6 @@
 // log program').
 #![tactic(auto)]
 
-ghost use Rattle.std.specs.Prelude.{◌≡◌};
-ghost use Rattle.laws.specs.Choice.{pick};
 ghost use Rattle.layout.specs.Tables.{held};
 ghost use Rattle.turns.specs.Turns.{Turned};
 
@@ -16,13 +14,6 @@ use tasks::task_at;
 pub struct Progress {
     pub length: usize,
     pub next: usize,
-}
-
-// The place of the next field, or the input's end.
-fn next_place(stop: bool, next: usize, end: usize) -> usize
-    ensures { result ≡ pick stop end next }
-{
-    if stop { end } else { next }
 }
 
 // Makes the call of the field at a place, and writes its line to the start of `line`.
@@ -49,12 +40,9 @@ pub fn turn(
         out.new line.new result.length result.next }
 {
     let task = task_at(input, at);
-    let order = task.order;
-    let start = task.start;
-    let end = task.end;
     let reply = call(
-        order,
-        &input[start..end],
+        task.order,
+        &input[task.start..task.end],
         bytes,
         used,
         label,
@@ -65,7 +53,11 @@ pub fn turn(
         s3,
         out,
     );
-    let length = say(order, reply, out, line);
-    let next = next_place(stops(order, reply), end, input.len());
+    let length = say(task.order, reply, out, line);
+    let next = if stops(task.order, reply) {
+        input.len()
+    } else {
+        task.end
+    };
     Progress { length, next }
 }

@@ -1,13 +1,9 @@
-use mathlib.Core.Path.{sym, ◌∙◌}
+use Rattle.std.proofs.Common.{sym, ◌∙◌, arith}
 use Rattle.caselines.proofs.Saying.{sum_turn, sum_end}
-use native.Mathlib.Omega.{arith}
 use Rattle.caselines.proofs.checksum.Goals as goal
 
-pub overflow_add-sum : goal.overflow_add-sum
-overflow_add-sum c = omega (arith, c.wide.ensures.1)
-
-pub loop-i-preserved : goal.loop-i-preserved
-loop-i-preserved c = (omega arith, omega arith, rw c.wide.ensures.0 (sym (sum_turn _ _ _ c.loop-i-test.true) ∙ c.loop-i.invariant.2))
+pub loop-b-preserved : goal.loop-b-preserved
+loop-b-preserved c = (omega arith, sym (sum_turn _ _ _ c.loop-b-test.true) ∙ c.loop-b.invariant.1)
 
 pub returns : goal.returns
-returns c = (sym (sum_end c.loop-i.sum c.loop-i.i c.args.bytes.now (omega (arith, c.loop-i-test.false))) ∙ c.loop-i.invariant.2, omega arith)
+returns c = sym (sum_end c.loop-b.sum c.loop-b.b-index c.args.bytes.now c.loop-b-test.false) ∙ c.loop-b.invariant.1

@@ -1,9 +1,10 @@
-use Rattle.casetext.proofs.Reading.{number_turn, number_end}
-use Rattle.std.proofs.Common.{sym, ◌∙◌, arith}
+use Rattle.std.proofs.Common.{rules, ◌≡◌, ◌+◌, ◌*◌, ◌%◌, ◌∙◌, fold, arith}
+use Rattle.casetext.proofs.Reading.{decimal_is, decimal_small}
+use Rattle.casetext.specs.CaseText.{decimal_from}
 use Rattle.casetext.proofs.number.Goals as goal
 
-pub loop-i-preserved : goal.loop-i-preserved
-loop-i-preserved c = (omega arith, rw c.wide.ensures.0 (sym (number_turn c.args.text.now c.loop-i.n c.loop-i.i c.args.to c.loop-i-test.true c.requires) ∙ c.loop-i.invariant.1))
-
 pub returns : goal.returns
-returns c = (sym (number_end c.args.text.now c.loop-i.n c.loop-i.i c.args.to (omega (arith, c.loop-i-test.false))) ∙ c.loop-i.invariant.1, omega arith)
+returns c =
+    let e : c.fold.result ≡ fold (λ n b. n % 1000000 * 10 + b % 16) 0 c.args.digits.now = search rules in
+    let d : c.fold.result ≡ decimal_from 0 c.args.digits.now = e ∙ decimal_is 0 c.args.digits.now in
+    (d, rw d (decimal_small 0 c.args.digits.now (omega arith)))

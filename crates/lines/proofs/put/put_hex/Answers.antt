@@ -1,24 +1,10 @@
-use native.Mathlib.Omega.{arith}
-use mathlib.Core.Path.{◌≡◌}
-use lib.ListN.{length}
-use lib.Seq.{take-length}
 use Rattle.lines.specs.Lines.{hex}
-use Rattle.lines.proofs.LineLaws.{put_none, put_length, put_within, hex_turn}
+use Rattle.lines.proofs.LineLaws.{put_none, hex_turn}
 use Rattle.lines.proofs.put.put_hex.Goals as goal
 
-pub loop-i-init : goal.loop-i-init
+pub loop-byte-init : goal.loop-byte-init
 unfolding hex
-loop-i-init c = (omega arith, put_none _ _ c.requires)
+loop-byte-init c = put_none _ _ c.requires
 
-pub put_hex_byte-next-requires : goal.put_hex_byte-next-requires
-put_hex_byte-next-requires c = put_within c.loop-i.invariant.1
-
-pub loop-i-preserved : goal.loop-i-preserved
-loop-i-preserved c = (omega arith, hex_turn _ _ c.loop-i-test.true c.loop-i.invariant.1 c.put_hex_byte-next.ensures)
-
-pub shape_of-line : goal.shape_of-line
-shape_of-line c = put_length c.loop-i.invariant.1
-
-pub returns : goal.returns
-returns c = let e : c.loop-i.i ≡ length c.args.bytes.now = omega arith in
-    rw (← take-length c.args.bytes.now, ← e) c.loop-i.invariant.1
+pub loop-byte-preserved : goal.loop-byte-preserved
+loop-byte-preserved c = hex_turn _ _ c.loop-byte-test.true c.loop-byte.invariant c.put_hex_byte-next.ensures

@@ -1,10 +1,6 @@
-use Prim.Native.Nat.{◌≤◌, ◌-◌}
-use lib.ListN.{length, take}
+use lib.ListN.{take}
 use Rattle.lines.specs.Lines.{Put, hex}
 use Rattle.lines.proofs.put.put_hex.Given as goal
 
-abbrev pub invariant-loop-i : goal.invariant-loop-i
-invariant-loop-i l = (l.i ≤ length l.bytes) × Put l.initial.line l.line l.at (hex (take l.i l.bytes)) l.next
-
-abbrev pub decreases-loop-i : goal.decreases-loop-i
-decreases-loop-i l = length l.bytes - l.i
+abbrev pub invariant-loop-byte : goal.invariant-loop-byte
+invariant-loop-byte l = Put l.initial.line l.line l.at (hex (take l.byte-index l.bytes)) l.next

@@ -1,23 +1,16 @@
-use native.Mathlib.Omega.{arith}
-use lib.ListN.{length-drop}
-use Rattle.laws.proofs.Lists.{tail_part}
-use Rattle.lines.proofs.LineLaws.{listing_start, listing_turn, listing_end, put_length, put_within}
+use Rattle.std.proofs.Common.{◌∙◌, ap, arith}
+use Rattle.lines.proofs.LineLaws.{listing_start, listing_turn, listing_end}
 use Rattle.lines.proofs.put.put_slots.Goals as goal
 
-pub loop-rest-init : goal.loop-rest-init
-loop-rest-init c = listing_start _ _ _ c.requires
+pub loop-pair-init : goal.loop-pair-init
+loop-pair-init c =
+    let e = c.chunks_exact-pair-items.ensures in let f = c.into_iter-pair-iterator.ensures.into_iter_gives in
+    (ap (λ i. i.size) f ∙ e.size, listing_start _ _ _ _ c.requires (ap (λ i. i.rest.now) f ∙ e.rest))
 
-pub put_figure-next-requires : goal.put_figure-next-requires
-put_figure-next-requires c = put_within c.loop-rest.invariant.put
-
-pub loop-rest-smaller : goal.loop-rest-smaller
-loop-rest-smaller c = rw tail_part (omega (arith, length-drop 2 c.loop-rest.rest.now))
-
-pub loop-rest-preserved : goal.loop-rest-preserved
-loop-rest-preserved c = listing_turn _ c.loop-rest-test.true c.loop-rest.invariant (omega (arith, c.wide.ensures.0, c.wide-in-loop-rest.ensures.0)) c.put_figure-next.ensures
-
-pub shape_of-line : goal.shape_of-line
-shape_of-line c = put_length c.loop-rest.invariant.put
+pub loop-pair-preserved : goal.loop-pair-preserved
+loop-pair-preserved c =
+    let e = c.in-Some.ensures.steps in let i = c.loop-pair.invariant in
+    (e.0 ∙ i.0, listing_turn _ _ (e.1.1 ∙ i.0) e.1.0 i.1 (rw (← c.number_at.ensures.0) c.put_figure-next.ensures))
 
 pub returns : goal.returns
-returns c = listing_end c.loop-rest-test.false c.loop-rest.invariant
+returns c = let i = c.loop-pair.invariant in listing_end (omega (arith, c.in-None.ensures.steps.1.0, i.0)) i.1

@@ -1,9 +1,6 @@
-use lib.ListN.{length}
+use Rattle.std.proofs.Common.{◌≡◌}
 use Rattle.lines.proofs.LineLaws.{Listing}
 use Rattle.lines.proofs.put.put_slots.Given as goal
 
-abbrev pub invariant-loop-rest : goal.invariant-loop-rest
-invariant-loop-rest l = Listing l.initial.line l.line l.at l.next l.listing l.rest
-
-abbrev pub decreases-loop-rest : goal.decreases-loop-rest
-decreases-loop-rest l = length l.rest
+abbrev pub invariant-loop-pair : goal.invariant-loop-pair
+invariant-loop-pair l = (l.pair-iterator.size ≡ 2) × Listing l.initial.line l.line l.at l.next l.listing l.pair-iterator.rest.now
