@@ -8,7 +8,7 @@ ghost use Rattle.export_answers.specs.Replies.{reply_number, first_told, second_
 use calls::Reply;
 use refusals::Refusal;
 
-// A refusal's number as C has it.
+// A refusal's number as C has it: a number, since the C interface is one.
 pub fn code(number: u8) -> u32
     ensures { result ≡ number }
 {
@@ -47,7 +47,7 @@ pub fn tell_first(reply: Reply, told: &mut usize) -> u32
     number_of(reply)
 }
 
-// Of a call that tells both numbers.
+// Of a call that tells both numbers. Beside the one above, since an exported call has one place or two.
 pub fn tell_both(reply: Reply, one: &mut usize, two: &mut usize) -> u32
     ensures { (result ≡ reply_number reply)
         × (one.new ≡ first_told reply one.old)

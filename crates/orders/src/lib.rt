@@ -44,7 +44,8 @@ fn ask(
     }
 }
 
-// Does what is ordered, of a signature, a term or a key; no order is the refusal that only the log program gives.
+// Does what is ordered, of a signature, a term or a key; no order is the refusal that only the log program gives. A match
+// and no closure: the order is read from the input.
 pub fn call(
     order: Order,
     term: &[u8],

@@ -9,7 +9,7 @@ ghost use Rattle.laws.specs.Sizes.{bytes_length, key_limit, link_length, slot_co
 
 use chains::roomy;
 
-// A term's items as its keys need them.
+// A term's items as its keys need them: the first `items` of each array, since memory is fixed.
 #[derive(Debug, Clone, Copy, PartialEq, Eq)]
 pub struct Outline {
     pub items: usize,
