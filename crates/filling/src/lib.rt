@@ -9,13 +9,15 @@ ghost use Rattle.laws.specs.Sizes.{bytes_length, slot_count};
 use laws::{BYTES, LENGTHS_START, TERMS_START};
 use slots::SlotSet;
 
-// Copies `from` to the place `at`.
+// Copies `from` to the place `at`. A `for`: `copy_from_slice` of a length not known ahead makes the archive ask its
+// caller for a memmove.
 fn copy(bytes: &mut [u8], at: usize, from: &[u8])
     requires { at + length from.now ≤ length bytes.old }
     ensures { bytes.new ≡ sets bytes.old at from.now }
 {
-    let end = at + from.len();
-    bytes[at..end].copy_from_slice(from);
+    for i in 0..from.len() {
+        bytes[at + i] = from[i];
+    }
 }
 
 // Writes zeros over the first n cells. A `for`: `fill` asks that a clone cannot fail, which `Copy` does not tell.
