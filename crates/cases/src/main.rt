@@ -33,6 +33,18 @@ struct Place {
     short: usize,
 }
 
+// Where the first case starts: the first line, the whole answer buffer, no table too short.
+fn start() -> Place
+    ensures { (result.at ≡ 0) × (result.round ≡ 0) × (result.room ≡ answer_room) × (result.short ≡ 8) }
+{
+    Place {
+        at: 0,
+        round: 0,
+        room: ANSWER,
+        short: 8,
+    }
+}
+
 // The length of a table, or one less if it is the one that is too short.
 fn cut(n: usize, table: usize, short: usize) -> usize
     ensures { (result ≡ lent_length short table n) × (result ≤ n) }
@@ -160,12 +172,7 @@ fn main(rt: HostRuntime) -> io::Result<()> {
     let mut s3 = [0u64; SETS];
     let mut out = [0u8; ANSWER];
     let n = read_full(&mut rt.stdin(), &mut input)?;
-    let mut place = Place {
-        at: 0,
-        round: 0,
-        room: ANSWER,
-        short: 8,
-    };
+    let mut place = start();
     while place.at < n {
         let case = case_at(&input[..n], place.at, place.round, &mut given);
         let reply = lend(
