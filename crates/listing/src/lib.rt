@@ -34,7 +34,7 @@ impl Iterator for Ascending {
 
 // The slots, ascending.
 pub fn members(set: SlotSet) -> Ascending
-    ensures { left result ≡ members set.words }
+    ensures { (left result ≡ members set.words) × (result.set.words ≡ set.words) × (result.from ≡ 0) }
 {
     Ascending { set, from: 0 }
 }

@@ -6,7 +6,7 @@ use Rattle.confirming.proofs.confirmed.Goals as goal
 pub loop-slot-init : goal.loop-slot-init
 loop-slot-init c = let a = c.args in
     confirming_start (test a.bytes.now a.relation a.sig.now a.q.now) a.candidates.words _ _ c.empty-answers.ensures
-    (ap left c.into_iter-slot-iterator.ensures.into_iter_gives ∙ c.members-slot-items.ensures)
+    (ap left c.into_iter-slot-iterator.ensures.into_iter_gives ∙ c.members-slot-items.ensures.0)
 
 pub term-requires : goal.term-requires
 term-requires c = (c.requires.0, confirming_slot _ _ _ _ c.loop-slot.invariant _ _ c.in-Some.ensures.steps)

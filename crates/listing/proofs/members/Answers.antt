@@ -4,4 +4,4 @@ use Rattle.listing.proofs.members.Goals as goal
 
 pub returns : goal.returns
 unfolding members
-returns c = refl
+returns c = (refl, refl, refl)

@@ -76,5 +76,5 @@ loop-left-preserved c = let a = c.args in
 pub returns : goal.returns
 returns c = let a = c.args in
     let l = c.loop-left in
-    let z : l.pending.count ≡ 0 = c.in_default.ensures.1 in
+    let z : l.pending.count ≡ 0 = c.in_default.ensures.1.0 in
     ((λ e. run_end a.sig.now a.pool.now c.requires.0 a.root l.pending.pairs l.tab l.masks l.cls (rw z at l.invariant)), λ d. absurd (d refl))
