@@ -22,8 +22,24 @@ use Rattle.laws.specs.Members.{nodup_bound}
 use Rattle.slots.specs.Sets.{members_once, members_has, from_has}
 use Rattle.laws.specs.Choice.{pick}
 use Rattle.laws.proofs.Lists.{front_turn, front_end}
-use Rattle.slots.specs.Slots.{has, members_from, members, listed, Next, next_above}
+use Rattle.std.proofs.lemmas.List.FromFn.{fill_by_all}
+use Rattle.slots.specs.Slots.{has, words8, members_from, members, listed, Next, next_above}
 use Rattle.laws.specs.Sizes.{slot_count}
+
+-- eight words that are one by one those of another list
+pub eight_same : (xs ws : List ℕ) → length xs ≡ 8 → length ws ≡ 8 → get_or xs 0 0 ≡ get_or ws 0 0 → get_or xs 1 0 ≡ get_or ws 1 0
+    → get_or xs 2 0 ≡ get_or ws 2 0 → get_or xs 3 0 ≡ get_or ws 3 0 → get_or xs 4 0 ≡ get_or ws 4 0
+    → get_or xs 5 0 ≡ get_or ws 5 0 → get_or xs 6 0 ≡ get_or ws 6 0 → get_or xs 7 0 ≡ get_or ws 7 0 → xs ≡ ws
+unfolding words8
+eight_same xs ws a b e0 e1 e2 e3 e4 e5 e6 e7 =
+    let x : xs ≡ words8 (λ i. get_or xs i 0) = fill_by_all (λ i. get_or xs i 0) xs 8 0 a (λ k l. refl) in
+    let w : ws ≡ words8 (λ i. get_or ws i 0) = fill_by_all (λ i. get_or ws i 0) ws 8 0 b (λ k l. refl) in
+    let m : words8 (λ i. get_or xs i 0) ≡ words8 (λ i. get_or ws i 0) = rw (e0, e1, e2, e3, e4, e5, e6, e7) refl in
+    x ∙ m ∙ sym w
+
+-- two bytes, each for an equal one
+pub pair_is : (a b c d : ℕ) → a ≡ c → b ≡ d → a ∷ b ∷ [] ≡ c ∷ d ∷ []
+pair_is a b c d e f = rw (e, f) refl
 
 -- the number of ones among the digits of a word
 unfoldable pub digits : ℕ → ℕ → ℕ

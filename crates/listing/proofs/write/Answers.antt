@@ -1,11 +1,11 @@
 use Prim.Native.Nat.{ℕ, ◌+◌, ◌-◌, ◌*◌, ◌/◌, ◌%◌, ◌<◌, ◌≤◌}
-use mathlib.Core.Path.{◌≡◌, ap, ◌∙◌}
+use mathlib.Core.Path.{◌≡◌, ◌∙◌}
 use mathlib.Core.List.{[], ◌∷◌}
 use native.Mathlib.Omega.{arith}
 use lib.ListN.{length}
 use Rattle.laws.specs.Sizes.{slot_count}
 use Rattle.slots.specs.Slots.{members}
-use Rattle.listing.proofs.Listing.{left_slot, list_rest, list_turn, list_end}
+use Rattle.listing.proofs.Listing.{left_slot, list_rest, list_turn, list_end, pair_is}
 use Rattle.listing.proofs.write.Goals as goal
 
 pub overflow_cast-slot : goal.overflow_cast-slot
@@ -17,9 +17,8 @@ loop-i-preserved c =
     let s = c.in-Some.ensures.steps in
     let slot : ℕ = c.in-Some.slot in
     let b : slot < slot_count = left_slot _ _ _ _ s.0 in
-    let h : slot / 256 % 256 ≡ slot / 256 = omega (arith, b) in
     let two : c.copy_from_slice.new.self ≡ slot / 256 ∷ slot % 256 ∷ [] =
-    c.copy_from_slice.ensures.after ∙ c.to_be_bytes.ensures ∙ ap (λ (x : ℕ). x ∷ slot % 256 ∷ []) h in
+    c.copy_from_slice.ensures.after ∙ c.to_be_bytes.ensures ∙ pair_is _ _ _ _ (omega (arith, b)) (omega (arith, b)) in
     let g : 2 * l.i-iterator.count + 2 - 2 * l.i-iterator.count ≡ 2 = omega arith in
     let room : 2 * length (members c.args.set.words) ≤ length l.out = omega (arith, c.requires, l.auto.out) in
     rw (s.2, s.1)
