@@ -1,7 +1,7 @@
 -- The table that holds a key, its eight words there, and what is made of them.
 use Prim.Native.Nat.{ℕ, zero, suc, ◌+◌, ◌*◌, ◌/◌, ◌%◌, ◌≤◌, ◌<◌}
 use mathlib.Core.Path.{◌≡◌, refl, sym, ap, ◌∙◌}
-use mathlib.Core.List.{List}
+use mathlib.Core.List.{List, [], ◌∷◌, reverse}
 use mathlib.Core.Bool.{Bool, true, false, ◌&&◌}
 use lib.ListN.{length, get_or, take, drop, replicate, length-drop}
 use lib.Seq.{ext_get_or, get_or-take, get_or-drop, length-take-le, take_all}
@@ -10,7 +10,8 @@ use borrow.Author.Tests.{lt-ltb, le-ltb}
 use lib.Bits.{bit_and}
 use native.Mathlib.Omega.{arith}
 use Rattle.std.specs.List.{list_all}
-use Rattle.std.proofs.lemmas.List.Folds.{list_all_more}
+use Rattle.std.proofs.lemmas.List.{reverse-append}
+use Rattle.std.proofs.lemmas.List.Folds.{list_all_more, list_all-append}
 use Rattle.slots.specs.Slots.{words8}
 use Rattle.slots.proofs.SlotLaws.{length_words8, get_or_words8}
 pub use Rattle.slots.proofs.SlotLaws.{clear_turned}
@@ -73,6 +74,17 @@ zeros_all σ k ws e =
     let long : length ws ≡ 8 = ap length e ∙ length_words8 (word σ k) in
     ap (list_all (λ w. eqb w 0)) (sym (take_all 8 ws (omega arith)))
     ∙ zeros_first σ k 8 ws (omega arith) (λ i l. ap (λ (r : List ℕ). get_or r i 0) e ∙ get_or_words8 (word σ k) i l)
+
+-- the other way round each passes where each does
+pub all_reversed : (p : ℕ → Bool) (ws : List ℕ) → list_all p (reverse ws) ≡ list_all p ws
+all_reversed p [] = refl
+all_reversed p (w ∷ r) = ap (list_all p) (reverse-append (w ∷ []) r) ∙ list_all-append p (reverse r) (w ∷ []) ∙ rw (all_reversed p r) (turned (list_all p r) (p w))
+  where
+    turned : (x y : Bool) → (x && (y && true)) ≡ (y && x)
+    turned true true = refl
+    turned true false = refl
+    turned false true = refl
+    turned false false = refl
 
 pub met_none : (σ : Sets) (k : ℕ) (ws : List ℕ) → key_limit ≤ k → replicate 8 0 ≡ met σ k ws
 unfolding met

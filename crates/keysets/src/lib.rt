@@ -50,11 +50,12 @@ impl<'a> KeySets<'a> {
         self.words(k)[i]
     }
 
+    // From the last word on: mostly slots are freed from the lowest on, and then the last words tell at once.
     pub fn is_empty(self, k: usize) -> bool
         requires { TablesLong self × (k < key_limit) }
         ensures { result ≡ emptyb (sets_of self.entry) k }
     {
-        self.words(k).iter().all(|word| *word == 0)
+        self.words(k).iter().rev().all(|word| *word == 0)
     }
 
     // The slots of a set that have the key k; none where k is no key.

@@ -36,8 +36,15 @@ module _ (σ τ : Sets) (k s : ℕ) where
   unfolding mark on
   marked e = e.3 ∙ ap (put_word σ k (s / 64)) e.1
 
+  -- the same of a key that equals k
+  pub marked_at : (x v : ℕ) → τ ≡ put_word σ x (s / 64) v → word σ x (s / 64) < 2 ^ 64 → k ≡ x → v ≡ bit_or (word σ k (s / 64)) (2 ^ (s % 64)) → τ ≡ mark σ k s
+  marked_at x v p f e q = marked (v, q, rw e f, rw e p)
+
   pub unmarked : Changed σ τ k (s / 64) (λ x r. r ≡ bit_and x (2 ^ 64 - 1 - 2 ^ (s % 64))) → τ ≡ unmark σ k s
   unfolding unmark off
   unmarked e =
       let b : s % 64 < 64 = omega arith in
       e.3 ∙ ap (put_word σ k (s / 64)) (e.1 ∙ clear_turned (word σ k (s / 64)) (2 ^ (s % 64)) e.2 (pow-lt b))
+
+  pub unmarked_at : (x v : ℕ) → τ ≡ put_word σ x (s / 64) v → word σ x (s / 64) < 2 ^ 64 → k ≡ x → v ≡ bit_and (word σ k (s / 64)) (2 ^ 64 - 1 - 2 ^ (s % 64)) → τ ≡ unmark σ k s
+  unmarked_at x v p f e q = unmarked (v, q, rw e f, rw e p)

@@ -3,9 +3,9 @@ use borrow.Author.Tests.{tests}
 use Prim.Native.Nat.{◌%◌}
 use native.Mathlib.Omega.{arith}
 use Rattle.laws.specs.Digits.{one_shl}
-use Rattle.marking.proofs.MarkLaws.{unmarked}
+use Rattle.marking.proofs.MarkLaws.{unmarked_at}
 use Rattle.marking.proofs.unmark.Goals as goal
 
 pub returns : goal.returns
 returns c = let e = c.change.ensures in
-    unmarked _ _ _ _ (e.0, rw (← one_shl (c.args.s % 64) (omega arith)) (search (rules, tests)), e.2, e.3)
+    unmarked_at _ _ _ _ _ _ e.3 e.2 (omega arith) (rw (← one_shl (c.args.s % 64) (omega arith)) (search (rules, tests)))

@@ -39,8 +39,8 @@ agrees-requires c = let a = c.args in
 pub returns : goal.returns
 returns c = let a = c.args in
     let f = rw c.number_at-c.ensures.0 at c.agrees.ensures in
-    rw c.then_some-2.ensures (stepped_if a.sig.now a.pattern.now a.target.now a.tab.now _ a.i a.j c.end_of-e.result c.agrees.result
-    (stepped_agrees a.sig.now a.pattern.now a.target.now a.tab.now a.i a.j c.requires.3 c.requires.2 (omega arith)
-    (omega (arith, c.requires.0.named a.i c.requires.2)) _ c.end_of-e.result c.end_of-e.ensures c.agrees.result f)
-    (stepped_differs a.sig.now a.pattern.now a.target.now a.tab.now a.i a.j c.requires.3 c.requires.2 (omega arith)
-    (omega (arith, c.requires.0.named a.i c.requires.2)) _ c.end_of-e.result c.end_of-e.ensures c.agrees.result f))
+    rw c.then_some-2.ensures (stepped_if a.sig.now a.pattern.now a.target.now a.tab.now _ a.i a.j c.end_of-e.result _
+    (λ e. stepped_agrees a.sig.now a.pattern.now a.target.now a.tab.now a.i a.j c.requires.3 c.requires.2 (omega arith)
+    (omega (arith, c.requires.0.named a.i c.requires.2)) _ c.end_of-e.result c.end_of-e.ensures c.agrees.result f (grind (arith, e)))
+    (λ e. stepped_differs a.sig.now a.pattern.now a.target.now a.tab.now a.i a.j c.requires.3 c.requires.2 (omega arith)
+    (omega (arith, c.requires.0.named a.i c.requires.2)) _ c.end_of-e.result c.end_of-e.ensures c.agrees.result f (grind (arith, e))))
